@@ -1,0 +1,180 @@
+// Lifting.
+ghost use mathlib.Core.Path.{_≡_};
+ghost use Prim.Native.Nat.{ℕ, _+_, _*_, _^_, _≤_, _<_};
+ghost use lib.ListN.{length};
+ghost use Rattle.tables.specs.Tables.{entries, height};
+ghost use Rattle.tables.proofs.Lawful.{Lawful};
+ghost use Rattle.lifting.specs.Lifting.{LiftGives, Enough};
+ghost use Rattle.lifting.specs.Steps.{ToStep, Stepped, ToDigit, Digited, ToDouble, Doubled, ToFinish, Finished, Started, ToStart, Parity, Early, Begun};
+ghost use Rattle.tables.specs.Buffer.{Has};
+ghost use Rattle.lifting.specs.Views.{BlockGives};
+
+// from B_0 in block 0 and R_i in block r: M_i in block m, R_{i+1} in block s
+pub fn step(n: usize, e: u32, a: &[i64], buf: &mut [i64], r: usize, m: usize, s: usize)
+    requires { ⌜ ToStep n e (now a) (now buf) r m s ⌝ }
+    ensures { λ _. ⌜ Stepped n (2 ^ e) (entries n (now (a .entry))) (now (buf .entry)) (now (buf .exit)) r m s ⌝ }
+{
+    tables::blocks::product(n, buf, 0, r, s);
+    tables::blocks::balance(n, e, buf, s);
+    tables::blocks::product(n, buf, s, r, m);
+    tables::blocks::balance(n, e, buf, m);
+    tables::blocks::product(n, buf, r, r, s);
+    tables::blocks::shrink(n, e, a, buf, m, s);
+}
+
+// from B_0 in block 0 and a residue in block r: its digit in block d, the next residue in block r
+pub fn digit(n: usize, e: u32, a: &[i64], buf: &mut [i64], r: usize, d: usize)
+    requires { ⌜ ToDigit n e (now a) (now buf) r d ⌝ }
+    ensures { λ _. ⌜ Digited n (2 ^ e) (entries n (now (a .entry))) (now (buf .entry)) (now (buf .exit)) r d ⌝ }
+{
+    tables::blocks::product(n, buf, 0, r, d);
+    tables::blocks::balance(n, e, buf, d);
+    tables::blocks::shrink(n, e, a, buf, d, r);
+}
+
+// from an inverse modulo 2^j in block 0 to one modulo 2^(2j); blocks 1 and 2 are for work
+fn double(n: usize, j: u32, a: &[i64], buf: &mut [i64])
+    requires { ⌜ ToDouble n j (now a) (now buf) ⌝ }
+    ensures { λ _. ⌜ Doubled n j (entries n (now (a .entry))) (now (buf .entry)) (now (buf .exit)) ⌝ }
+{
+    tables::blocks::identity(n, buf, 1);
+    tables::blocks::shrink(n, j, a, buf, 0, 1);
+    tables::blocks::product(n, buf, 0, 1, 2);
+    tables::blocks::balance(n, j, buf, 2);
+    tables::blocks::extend(n, j, buf, 0, 2);
+}
+
+// B_0 in block 0 and R_0 in block 1, from an inverse modulo 2^e or more in block 0
+fn finish(n: usize, e: u32, a: &[i64], buf: &mut [i64])
+    requires { ⌜ ToFinish n e (now a) (now buf) ⌝ }
+    ensures { λ _. ⌜ Finished n (2 ^ e) (entries n (now (a .entry))) (now (buf .entry)) (now (buf .exit)) ⌝ }
+{
+    tables::blocks::balance(n, e, buf, 0);
+    tables::blocks::identity(n, buf, 1);
+    tables::blocks::shrink(n, e, a, buf, 0, 1);
+}
+
+// an inverse modulo 2 in block 0, in zeros and ones; false where there is none
+fn halves(n: usize, a: &[i64], buf: &mut [i64]) -> bool
+    requires { ⌜ (Lawful n (now a)) × (Has n (now buf) 0) ⌝ }
+    ensures { λ odd. ⌜ Parity n (entries n (now (a .entry))) (now (buf .entry)) odd (now (buf .exit)) ⌝ }
+{
+    let m = n * n;
+    parity::inverse(a, n, &mut buf[..m])
+}
+
+// B_0 in block 0 and R_0 in block 1, with block 2 for work; false where a has no inverse modulo 2
+pub fn start(n: usize, e: u32, a: &[i64], buf: &mut [i64]) -> bool
+    requires { ⌜ ToStart n e (now a) (now buf) ⌝ }
+    ensures { λ odd. ⌜ Started n (2 ^ e) (entries n (now (a .entry))) (now (buf .entry)) odd (now (buf .exit)) ⌝ }
+{
+    if !halves(n, a, buf) {
+        return false;
+    }
+    let mut j: u32 = 1;
+    while j < e {
+        double(n, j, a, buf);
+        j = j + j;
+    }
+    finish(n, e, a, buf);
+    true
+}
+
+// the first number from 1 to 5 that applies, or 0; size is the length of the lent expansion
+fn early(n: usize, s: usize, e: u32, a: &[i64], size: usize) -> u32
+    ensures { λ r. ⌜ Early n s e (now (a .entry)) size r ⌝ }
+{
+    if n == 0 {
+        return 1;
+    }
+    if 32 < n {
+        return 1;
+    }
+    if 4 < s {
+        return 2;
+    }
+    let m = n * n;
+    if a.len() != m {
+        return 3;
+    }
+    if size != (2 * s + 2) * m {
+        return 3;
+    }
+    let h = tables::top(a);
+    if 1048576 < h {
+        return 4;
+    }
+    if 32 < e {
+        return 5;
+    }
+    if e < numbers::need(n as u64, h) {
+        return 5;
+    }
+    0
+}
+
+// B_0 and R_0 in the first two blocks; false, with the buffer as it was, where a has no inverse modulo 2
+fn begin(n: usize, e: u32, a: &[i64], out: &mut [i64]) -> bool
+    requires { ⌜ (Lawful n (now a)) × ((Enough n (height (now a)) e) × ((e ≤ 32) × (2 * (n * n) ≤ length (now out)))) ⌝ }
+    ensures { λ odd. ⌜ Begun n e (now (a .entry)) (now (out .entry)) odd (now (out .exit)) ⌝ }
+{
+    let mut work = [0i64; 3072];
+    if !start(n, e, a, &mut work) {
+        return false;
+    }
+    let m = 2 * (n * n);
+    tables::blocks::copy(m, &work, out);
+    true
+}
+
+// the sparse inverse expansion of a table by 2^exponent, with a number of lifts
+pub fn lift(n: usize, lifts: usize, exponent: u32, table: &[i64], expansion: &mut [i64]) -> u32
+    ensures { λ k. ⌜ LiftGives n lifts exponent (now (table .entry)) (now (expansion .entry)) k (now (expansion .exit)) ⌝ }
+{
+    let bad = early(n, lifts, exponent, table, expansion.len());
+    if bad != 0 {
+        return bad;
+    }
+    if !begin(n, exponent, table, expansion) {
+        return 6;
+    }
+    let mut t: usize = 0;
+    while t < lifts {
+        step(
+            n,
+            exponent,
+            table,
+            expansion,
+            2 * t + 1,
+            2 * t + 2,
+            2 * t + 3,
+        );
+        t += 1;
+    }
+    0
+}
+
+// block j of an expansion, or the empty stretch at its start
+pub fn block(n: usize, lifts: usize, expansion: &[i64], j: usize) -> &[i64]
+    ensures { λ r. ⌜ BlockGives n lifts (expansion .entry) j r ⌝ }
+{
+    if n == 0 {
+        return &expansion[..0];
+    }
+    if 32 < n {
+        return &expansion[..0];
+    }
+    if 4 < lifts {
+        return &expansion[..0];
+    }
+    let m = n * n;
+    if expansion.len() != (2 * lifts + 2) * m {
+        return &expansion[..0];
+    }
+    if 2 * lifts + 1 < j {
+        return &expansion[..0];
+    }
+    let p = j * m;
+    let q = p + m;
+    &expansion[p..q]
+}

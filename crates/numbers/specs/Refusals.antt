@@ -1,0 +1,26 @@
+-- The number that a call gives back.
+--   Refusals          a call's numbers in the stated order, each with what it stands for: `1 when P then 2 when Q then done`
+--   Gives rs k        k is the first of them that applies, or 0 where none does
+--   Applies rs k      number k applies, wherever it stands
+--   Rising from rs    the numbers rise, from above `from` on
+-- Where they rise, the first that applies is the lowest (proofs/Refusals.antt). The order decides, not the size of a number.
+use mathlib.Core.Path.{_≡_}
+use mathlib.Core.Logic.{_⊎_}
+use Prim.Native.Nat.{ℕ, _<_}
+
+infixr 3 _when_then_
+pub data Refusals : Type 1 where
+  done : Refusals
+  _when_then_ : ℕ → Type 0 → Refusals → Refusals
+
+abbrev pub Gives : Refusals → ℕ → Type 0
+Gives done k = k ≡ 0
+Gives (j when P then rs) k = (P × (k ≡ j)) ⊎ ((¬ P) × Gives rs k)
+
+abbrev pub Applies : Refusals → ℕ → Type 0
+Applies done k = ⊥
+Applies (j when P then rs) k = (P × (k ≡ j)) ⊎ Applies rs k
+
+abbrev pub Rising : ℕ → Refusals → Type 0
+Rising m done = Unit {0}
+Rising m (j when P then rs) = (m < j) × Rising j rs

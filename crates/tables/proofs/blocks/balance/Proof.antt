@@ -1,0 +1,105 @@
+use mathlib.Core.Path.{_≡_, refl, sym, ap, ap₂, _∙_}
+use Prim.Native.Nat.{ℕ, _+_, _*_, _-_, _^_, _≤_, _<_}
+use native.Mathlib.Omega.{arith}
+use lib.IntN.{ℤ, pos, _+ℤ_, _-ℤ_, _*ℤ_}
+use lib.ListN.{length, getD}
+use lib.Signed.{shrZ}
+use Rattle.numbers.proofs.Machine.{rd, rd-is, rd-ok, rd-got}
+use Rattle.tables.specs.Tables.{_·⟨_⟩_, block, entries}
+use Rattle.tables.proofs.Wrote.{Wrote, wrote-none, wrote-more}
+use lib.Pow.{pow-pos}
+use Rattle.numbers.proofs.Rem.{rem}
+use Rattle.tables.proofs.Buffers.{square-small, flat, flat-block, put-of, low-flat, balance-gives}
+use Rattle.tables.proofs.blocks.balance.Statement.{statement}
+use Rattle.tables.proofs.blocks.balance.Tie as tie
+use Rattle.tables.proofs.blocks.balance.Reads as reads
+use Rattle.tables.proofs.blocks.balance.Lts as lts
+use Rattle.numbers.proofs.rem_pow.Reads as rem-pow-reads
+
+abbrev Inv-loop : tie.InvT-loop
+Inv-loop n e buf₀ o m oa t₀ buf t = (t ≤ n * n) × Wrote (flat n (λ i j. rem (2 ^ e) (block n buf₀ o i j))) (o * (n * n)) t buf₀ buf
+
+abbrev μ-loop : tie.MeasureT-loop
+μ-loop n e buf₀ o m oa t₀ buf t = n * n - t
+
+mul-m : tie.Need-mul-m Inv-loop μ-loop
+mul-m c = omega (arith, square-small (c .pre .order .upto))
+
+mul-oa : tie.Need-mul-oa Inv-loop μ-loop
+mul-oa c = omega arith
+
+loop-holds : tie.Need-loop-holds Inv-loop μ-loop
+loop-holds c = (omega arith, wrote-none _ _ _)
+
+add-rem-pow : tie.Need-add-rem-pow Inv-loop μ-loop
+add-rem-pow c = omega arith
+
+mul-rem-pow : tie.Need-mul-rem-pow Inv-loop μ-loop
+mul-rem-pow c = omega arith
+
+slice-copy-out-rem-pow : tie.Need-slice-copy-out-rem-pow Inv-loop μ-loop
+slice-copy-out-rem-pow c = omega arith
+
+rem-pow-requires : tie.Need-rem-pow-requires Inv-loop μ-loop
+rem-pow-requires c κs =
+    let l = c .before .before in
+    let s = l .before in
+    simp (rd-ok _ (c .rem-pow-arg .given) ∙ l .loop .inv .1 .after _ (omega arith))
+    ((s .pre .from, s .pre .upto), omega (arith, low-flat (s .args .buf .now) (s .args .o) (s .pre .order) (s .pre .room) (l .loop .t) (c .before .loop-test .taken)))
+
+add-v : tie.Need-add-v Inv-loop μ-loop
+add-v c = omega arith
+
+mul-v : tie.Need-mul-v Inv-loop μ-loop
+mul-v c = omega arith
+
+slice-set-from-v : tie.Need-slice-set-from-v Inv-loop μ-loop
+slice-set-from-v c = omega arith
+
+add-t : tie.Need-add-t Inv-loop μ-loop
+add-t c = omega arith
+
+loop-less : tie.Need-loop-less Inv-loop μ-loop
+loop-less c = omega arith
+
+loop-again : tie.Need-loop-again Inv-loop μ-loop
+loop-again c =
+    let l = c .before .before .before in
+    let s = l .before in
+    let v = l .loop .inv .1 in (
+      omega arith,
+      wrote-more _ _ _ _ _ _ (omega arith)
+          (rd-ok (c .rem-pow .result) (c .rem-pow .ok)
+          ∙ balance-gives (2 ^ (s .args .e)) (pow-pos (s .args .e)) (s .args .n) (s .args .buf .now) (s .args .o) (l .loop .t) (rd-ok _ (c .before .rem-pow-arg .given) ∙ v .after _ (omega arith)) (c .rem-pow .ensures)) v,
+    )
+
+same-length : tie.Need-same-length Inv-loop μ-loop
+same-length c = c .before .loop .inv .1 .long
+
+returns : tie.Need-returns Inv-loop μ-loop
+returns c =
+    let s = c .before .before in
+    let e : c .before .loop .t ≡ s .args .n * s .args .n = omega arith in
+    put-of (s .args .n) (s .args .o) (rw e at (c .before .loop .inv .1))
+
+pub balance-spec : {M : Type 1} → statement M
+balance-spec =
+    tie.close
+    (tie.spec
+    Inv-loop
+    μ-loop
+    mul-m
+    mul-oa
+    loop-holds
+    add-rem-pow
+    mul-rem-pow
+    slice-copy-out-rem-pow
+    rem-pow-requires
+    add-v
+    mul-v
+    slice-set-from-v
+    add-t
+    loop-less
+    loop-again
+    same-length
+    returns)

@@ -1,0 +1,89 @@
+use mathlib.Core.Path.{_≡_, refl, sym, ap, ap₂, _∙_}
+use Prim.Native.Nat.{ℕ, _+_, _*_, _-_, _^_, _≤_, _<_}
+use native.Mathlib.Omega.{arith}
+use lib.IntN.{ℤ, pos, natAbs, _+ℤ_, _-ℤ_, _*ℤ_}
+use lib.ListN.{length, getD}
+use Rattle.numbers.proofs.Machine.{rd, rd-is, rd-ok, rd-got}
+use Rattle.numbers.proofs.Sum.{δ}
+use Rattle.tables.specs.Tables.{_·⟨_⟩_, block, entries}
+use Rattle.tables.proofs.Wrote.{Wrote, wrote-none, wrote-more}
+use lib.Seq.{getD-set-same, getD-set-other}
+use lib.ListN.{set, length-set}
+use borrow.Author.Count.{below-more}
+use Rattle.tables.proofs.blocks.copy.Statement.{statement}
+use Rattle.tables.proofs.blocks.copy.Tie as tie
+use Rattle.tables.proofs.blocks.copy.Reads as reads
+use Rattle.tables.proofs.blocks.copy.Lts as lts
+
+abbrev Inv-loop : tie.InvT-loop
+Inv-loop m a buf₀ t₀ buf t = (t ≤ m) × ((length buf ≡ length buf₀) × ((k : ℕ) → k < t → getD buf k (pos 0) ≡ getD a k (pos 0)))
+
+abbrev μ-loop : tie.MeasureT-loop
+μ-loop m a buf₀ t₀ buf t = m - t
+
+none : (k : ℕ) → k < 0 → ⊥
+none k h = omega arith
+
+loop-holds : tie.Need-loop-holds Inv-loop μ-loop
+loop-holds c = (omega arith, (refl, λ k h. absurd (none k h)))
+
+apart : (k t : ℕ) → k < t → k ≡ t → ⊥
+apart k t h q = omega arith
+
+loop-again : tie.Need-loop-again Inv-loop μ-loop
+loop-again c =
+    let l = c .before .before in
+    let g = l .before .args in
+    let v = l .loop .inv in
+    let e = rd-ok (getD (g .a .now) (l .loop .t) (pos 0)) (c .buf .given) in (
+      omega arith,
+      (
+        length-set (l .loop .buf) (l .loop .t) _ ∙ v .1 .0,
+        below-more (λ (k : ℕ). getD (set (l .loop .buf) (l .loop .t) (rd (getD (g .a .now) (l .loop .t) (pos 0)))) k (pos 0) ≡ getD (g .a .now) k (pos 0)) (l .loop .t)
+            (λ k h. getD-set-other (l .loop .buf) (l .loop .t) k _ (pos 0) (λ q. apart k _ h q) ∙ v .1 .1 k h)
+            (getD-set-same (l .loop .buf) (l .loop .t) _ (pos 0) (omega arith) ∙ e),
+      ),
+    )
+
+same-length : tie.Need-same-length Inv-loop μ-loop
+same-length c = c .before .loop .inv .1 .0
+
+returns : tie.Need-returns Inv-loop μ-loop
+returns c =
+    let e : c .before .loop .t ≡ c .before .before .args .m = omega arith in
+    record { long = c .before .loop .inv .1 .0; same = rw e at (c .before .loop .inv .1 .1) }
+
+mul-buf : tie.Need-mul-buf Inv-loop μ-loop
+mul-buf c = omega arith
+
+shared-slice-copy-out-buf : tie.Need-shared-slice-copy-out-buf Inv-loop μ-loop
+shared-slice-copy-out-buf c = omega arith
+
+mul-t9 : tie.Need-mul-t9 Inv-loop μ-loop
+mul-t9 c = omega arith
+
+slice-set-from-buf : tie.Need-slice-set-from-buf Inv-loop μ-loop
+slice-set-from-buf c = omega arith
+
+add-t : tie.Need-add-t Inv-loop μ-loop
+add-t c = omega arith
+
+loop-less : tie.Need-loop-less Inv-loop μ-loop
+loop-less c = omega arith
+
+pub copy-spec : {M : Type 1} → statement M
+copy-spec =
+    tie.close
+    (tie.spec
+    Inv-loop
+    μ-loop
+    loop-holds
+    mul-buf
+    shared-slice-copy-out-buf
+    mul-t9
+    slice-set-from-buf
+    add-t
+    loop-less
+    loop-again
+    same-length
+    returns)

@@ -1,0 +1,133 @@
+use mathlib.Core.Path.{_≡_, refl, sym, ap, ap₂, _∙_}
+use Prim.Native.Nat.{ℕ, _+_, _*_, _-_, _^_, _≤_, _<_}
+use native.Mathlib.Omega.{arith}
+use lib.IntN.{ℤ, pos, natAbs, _+ℤ_, _-ℤ_, _*ℤ_}
+use lib.ListN.{length, getD}
+use Rattle.numbers.proofs.Machine.{rd, rd-is, rd-ok, rd-got}
+use Rattle.numbers.proofs.Sum.{δ}
+use Rattle.tables.specs.Tables.{_·⟨_⟩_, block, entries}
+use Rattle.tables.proofs.Wrote.{Wrote, wrote-none, wrote-more}
+use Rattle.tables.proofs.Buffers.{square-small, flat, put-of, kept-at, extend-gives, extend-room}
+use Rattle.tables.proofs.blocks.extend.Statement.{statement}
+use Rattle.tables.proofs.blocks.extend.Tie as tie
+use Rattle.tables.proofs.blocks.extend.Reads as reads
+use Rattle.tables.proofs.blocks.extend.Lts as lts
+use Rattle.numbers.proofs.mac.Reads as mac-reads
+use Rattle.numbers.proofs.pow2.Reads as pow2-reads
+
+abbrev Inv-loop : tie.InvT-loop
+Inv-loop n e buf₀ c d m ca da x t₀ buf t = (t ≤ n * n) × Wrote (flat n (λ i j. block n buf₀ c i j +ℤ pos (2 ^ e) *ℤ block n buf₀ d i j)) (c * (n * n)) t buf₀ buf
+
+abbrev μ-loop : tie.MeasureT-loop
+μ-loop n e buf₀ c d m ca da x t₀ buf t = n * n - t
+
+mul-m : tie.Need-mul-m Inv-loop μ-loop
+mul-m c = omega (arith, square-small (c .pre .order .upto))
+
+pow2-requires : tie.Need-pow2-requires Inv-loop μ-loop
+pow2-requires c κs = omega arith
+
+loop-holds : tie.Need-loop-holds Inv-loop μ-loop
+loop-holds c = (omega arith, wrote-none _ _ _)
+
+-- what is read, of the numbers themselves
+first : (c : tie.After-mac-arg2 Inv-loop μ-loop) → let l = c .before .before .before in let g = l .before .before .args in rd (getD (l .loop .buf) (g .c * (g .n * g .n) + l .loop .t) (pos 0)) ≡ getD (g .buf .now) (g .c * (g .n * g .n) + l .loop .t) (pos 0)
+first c = rd-ok _ (c .before .mac-arg .given) ∙ c .before .before .before .loop .inv .1 .after _ (omega arith)
+
+second : (c : tie.After-mac-arg2 Inv-loop μ-loop) → let l = c .before .before .before in let g = l .before .before .args in rd (getD (l .loop .buf) (g .d * (g .n * g .n) + l .loop .t) (pos 0)) ≡ getD (g .buf .now) (g .d * (g .n * g .n) + l .loop .t) (pos 0)
+second c =
+    let l = c .before .before .before in
+    let s = l .before .before in
+    rd-ok _ (c .mac-arg2 .given) ∙ kept-at (s .args .n) (s .args .c) (l .loop .inv .0) (l .loop .inv .1) (s .args .d) (s .pre .apart) (l .loop .t) (c .before .before .loop-test .taken)
+
+power : (c : tie.After-pow2 Inv-loop μ-loop) → rd (c .pow2 .result) ≡ pos (2 ^ (c .before .args .e))
+power c = rd-got (c .pow2 .result) (c .pow2 .ok) (c .pow2 .ensures)
+
+mac-requires : tie.Need-mac-requires Inv-loop μ-loop
+mac-requires c κs =
+    let l = c .before .before .before in
+    simp (first c, second c, power (l .before)) (extend-room (l .before .before .pre) (l .loop .t) (c .before .before .loop-test .taken))
+
+loop-again : tie.Need-loop-again Inv-loop μ-loop
+loop-again c =
+    let l = c .before .before .before .before in
+    let g = l .before .before .args in (
+      omega arith,
+      wrote-more _ _ _ _ _ _ (omega arith)
+          (rd-ok (c .mac .result) (c .mac .ok) ∙ (simp (first (c .before), second (c .before), power (l .before)) at (c .mac .ensures)) ∙ extend-gives (g .e) (g .n) (g .buf .now) (g .c) (g .d) (l .loop .t)) (l .loop .inv .1),
+    )
+
+same-length : tie.Need-same-length Inv-loop μ-loop
+same-length c = c .before .loop .inv .1 .long
+
+returns : tie.Need-returns Inv-loop μ-loop
+returns c =
+    let s = c .before .before .before in
+    let e : c .before .loop .t ≡ s .args .n * s .args .n = omega arith in
+    put-of (s .args .n) (s .args .c) (rw e at (c .before .loop .inv .1))
+
+mul-ca : tie.Need-mul-ca Inv-loop μ-loop
+mul-ca c = omega arith
+
+mul-da : tie.Need-mul-da Inv-loop μ-loop
+mul-da c = omega arith
+
+add-mac : tie.Need-add-mac Inv-loop μ-loop
+add-mac c = omega arith
+
+mul-mac : tie.Need-mul-mac Inv-loop μ-loop
+mul-mac c = omega arith
+
+slice-copy-out-mac : tie.Need-slice-copy-out-mac Inv-loop μ-loop
+slice-copy-out-mac c = omega arith
+
+add-mac-2 : tie.Need-add-mac-2 Inv-loop μ-loop
+add-mac-2 c = omega arith
+
+mul-mac-2 : tie.Need-mul-mac-2 Inv-loop μ-loop
+mul-mac-2 c = omega arith
+
+slice-copy-out-mac-2 : tie.Need-slice-copy-out-mac-2 Inv-loop μ-loop
+slice-copy-out-mac-2 c = omega arith
+
+add-v : tie.Need-add-v Inv-loop μ-loop
+add-v c = omega arith
+
+mul-v : tie.Need-mul-v Inv-loop μ-loop
+mul-v c = omega arith
+
+slice-set-from-v : tie.Need-slice-set-from-v Inv-loop μ-loop
+slice-set-from-v c = omega arith
+
+add-t : tie.Need-add-t Inv-loop μ-loop
+add-t c = omega arith
+
+loop-less : tie.Need-loop-less Inv-loop μ-loop
+loop-less c = omega arith
+
+pub extend-spec : {M : Type 1} → statement M
+extend-spec =
+    tie.close
+    (tie.spec
+    Inv-loop
+    μ-loop
+    mul-m
+    mul-ca
+    mul-da
+    pow2-requires
+    loop-holds
+    add-mac
+    mul-mac
+    slice-copy-out-mac
+    add-mac-2
+    mul-mac-2
+    slice-copy-out-mac-2
+    mac-requires
+    add-v
+    mul-v
+    slice-set-from-v
+    add-t
+    loop-less
+    loop-again
+    same-length
+    returns)

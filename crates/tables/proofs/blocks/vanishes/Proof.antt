@@ -1,0 +1,88 @@
+use mathlib.Core.Path.{_≡_, refl, sym, ap, ap₂, _∙_}
+use Prim.Native.Nat.{ℕ, _+_, _*_, _-_, _^_, _≤_, _<_}
+use native.Mathlib.Omega.{arith}
+use lib.IntN.{ℤ, pos, natAbs, _+ℤ_, _-ℤ_, _*ℤ_}
+use borrow.Author.Count.{below-more}
+use lib.ListN.{length, getD}
+use Rattle.numbers.proofs.Machine.{rd, rd-is, rd-ok, rd-got, bits-zero, zero-bits}
+use Rattle.numbers.proofs.Sum.{δ}
+use Rattle.tables.specs.Tables.{_·⟨_⟩_, block, entries}
+use Rattle.tables.proofs.Wrote.{Wrote, wrote-none, wrote-more}
+use mathlib.Core.Bool.{true, false}
+use Rattle.tables.specs.Buffer.{Vanishes}
+use Rattle.tables.proofs.Buffers.{square-small, vanishes-yes, vanishes-no}
+use Rattle.tables.proofs.blocks.vanishes.Statement.{statement}
+use Rattle.tables.proofs.blocks.vanishes.Tie as tie
+use Rattle.tables.proofs.blocks.vanishes.Reads as reads
+use Rattle.tables.proofs.blocks.vanishes.Lts as lts
+
+abbrev Inv-loop : tie.InvT-loop
+Inv-loop n buf o m oa t₀ t = (t ≤ n * n) × ((k : ℕ) → k < t → getD buf (o * (n * n) + k) (pos 0) ≡ pos 0)
+
+abbrev μ-loop : tie.MeasureT-loop
+μ-loop n buf o m oa t₀ t = n * n - t
+
+mul-m : tie.Need-mul-m Inv-loop μ-loop
+mul-m c = omega (arith, square-small (c .pre .0 .upto))
+
+none : (k : ℕ) → k < 0 → ⊥
+none k h = omega arith
+
+loop-holds : tie.Need-loop-holds Inv-loop μ-loop
+loop-holds c = (omega arith, λ k h. absurd (none k h))
+
+loop-again : tie.Need-loop-again Inv-loop μ-loop
+loop-again c =
+    let l = c .before .before .before in
+    let g = l .before .args in (
+      omega arith,
+      below-more (λ (k : ℕ). getD (g .buf .now) (g .o * (g .n * g .n) + k) (pos 0) ≡ pos 0) (l .loop .t) (l .loop .inv .1) (bits-zero _ (c .before .if12 .given) (c .if1 .left)),
+    )
+
+returns : tie.Need-returns Inv-loop μ-loop
+returns c =
+    let l = c .before .before .before in
+    let s = l .before in
+    vanishes-no (s .args .buf .now) (s .args .o) (l .loop .t) (s .pre .0) (c .before .before .loop-test .taken) (λ e. c .if1 .taken (zero-bits _ e))
+
+returns-2 : tie.Need-returns-2 Inv-loop μ-loop
+returns-2 c =
+    let s = c .before .before in
+    let e : c .before .loop .t ≡ s .args .n * s .args .n = omega arith in
+    vanishes-yes (s .args .buf .now) (s .args .o) (rw e at (c .before .loop .inv .1))
+
+mul-oa : tie.Need-mul-oa Inv-loop μ-loop
+mul-oa c = omega arith
+
+add-if1 : tie.Need-add-if1 Inv-loop μ-loop
+add-if1 c = omega arith
+
+mul-if1 : tie.Need-mul-if1 Inv-loop μ-loop
+mul-if1 c = omega arith
+
+shared-slice-copy-out-if1 : tie.Need-shared-slice-copy-out-if1 Inv-loop μ-loop
+shared-slice-copy-out-if1 c = omega arith
+
+add-t : tie.Need-add-t Inv-loop μ-loop
+add-t c = omega arith
+
+loop-less : tie.Need-loop-less Inv-loop μ-loop
+loop-less c = omega arith
+
+pub vanishes-spec : {M : Type 1} → statement M
+vanishes-spec =
+    tie.close
+    (tie.spec
+    Inv-loop
+    μ-loop
+    mul-m
+    mul-oa
+    loop-holds
+    add-if1
+    mul-if1
+    shared-slice-copy-out-if1
+    returns
+    add-t
+    loop-less
+    loop-again
+    returns-2)

@@ -1,0 +1,187 @@
+ghost use mathlib.Core.Path.{_≡_};
+ghost use mathlib.Core.Bool.{true, false};
+ghost use Prim.Native.Nat.{ℕ, _+_, _*_, _-_, _^_, _≤_, _<_};
+ghost use lib.IntN.{ℤ, pos, natAbs, _+ℤ_, _-ℤ_, _*ℤ_};
+ghost use lib.ListN.{length, getD};
+ghost use lib.Signed.{shrZ};
+ghost use Rattle.numbers.specs.Numbers.{δ};
+ghost use Rattle.numbers.proofs.Rem.{rem};
+ghost use Rattle.tables.specs.Tables.{_·⟨_⟩_, entries, block, height, IsOrder};
+ghost use Rattle.tables.specs.Buffer.{tableAt, Low, Has, Dot, Product, Shrink, Put, Balance, Extend, Vanishes, Copied};
+ghost use Rattle.tables.specs.Checks.{Says};
+
+// entry (i, k) of the table at place p
+fn cell(n: usize, a: &[i64], p: usize, i: usize, k: usize) -> i64
+    requires { ⌜ (n ≤ 32) × ((i < n) × ((k < n) × (p + n * n ≤ length (now a)))) ⌝ }
+    ensures { λ r. ⌜ r ≡ getD (now (a .entry)) (p + (i * n + k)) (pos 0) ⌝ }
+{
+    a[p + (i * n + k)]
+}
+
+// entry (i, j) of the product of the tables at places p and q
+pub fn dot(n: usize, a: &[i64], p: usize, b: &[i64], q: usize, i: usize, j: usize) -> i64
+    requires { ⌜ Dot n (now a) p (now b) q i j ⌝ }
+    ensures { λ r. ⌜ r ≡ (tableAt n (now (a .entry)) p ·⟨ n ⟩ tableAt n (now (b .entry)) q) i j ⌝ }
+{
+    let mut s: i64 = 0;
+    let mut k: usize = 0;
+    while k < n {
+        s = numbers::mac(s, cell(n, a, p, i, k), cell(n, b, q, k, j));
+        k += 1;
+    }
+    s
+}
+
+// block o becomes the product of blocks p and q
+pub fn product(n: usize, buf: &mut [i64], p: usize, q: usize, o: usize)
+    requires { ⌜ Product n (now buf) p q o ⌝ }
+    ensures { λ _. ⌜ Put n (block n (now (buf .entry)) p ·⟨ n ⟩ block n (now (buf .entry)) q) o (now (buf .entry)) (now (buf .exit)) ⌝ }
+{
+    let m = n * n;
+    let pa = p * m;
+    let qa = q * m;
+    let oa = o * m;
+    let mut t: usize = 0;
+    let mut i: usize = 0;
+    let mut j: usize = 0;
+    while t < m {
+        let v = dot(n, buf, pa, buf, qa, i, j);
+        buf[oa + t] = v;
+        t += 1;
+        j += 1;
+        if j == n {
+            j = 0;
+            i += 1;
+        }
+    }
+}
+
+// block s, less a times block m, divided by 2^e, rounded down
+pub fn shrink(n: usize, e: u32, a: &[i64], buf: &mut [i64], m: usize, s: usize)
+    requires { ⌜ Shrink n e (now a) (now buf) m s ⌝ }
+    ensures { λ _. ⌜ Put n (λ (i j : ℕ). shrZ (block n (now (buf .entry)) s i j -ℤ (entries n (now (a .entry)) ·⟨ n ⟩ block n (now (buf .entry)) m) i j) (2 ^ e)) s (now (buf .entry)) (now (buf .exit)) ⌝ }
+{
+    let size = n * n;
+    let ma = m * size;
+    let sa = s * size;
+    let mut t: usize = 0;
+    let mut i: usize = 0;
+    let mut j: usize = 0;
+    while t < size {
+        let d = dot(n, a, 0, buf, ma, i, j);
+        let v = numbers::shr(numbers::sub(buf[sa + t], d), e);
+        buf[sa + t] = v;
+        t += 1;
+        j += 1;
+        if j == n {
+            j = 0;
+            i += 1;
+        }
+    }
+}
+
+// block o becomes its balanced remainder by 2^e
+pub fn balance(n: usize, e: u32, buf: &mut [i64], o: usize)
+    requires { ⌜ Balance n e (now buf) o ⌝ }
+    ensures { λ _. ⌜ Put n (λ (i j : ℕ). rem (2 ^ e) (block n (now (buf .entry)) o i j)) o (now (buf .entry)) (now (buf .exit)) ⌝ }
+{
+    let m = n * n;
+    let oa = o * m;
+    let mut t: usize = 0;
+    while t < m {
+        let v = numbers::rem_pow(buf[oa + t], e);
+        buf[oa + t] = v;
+        t += 1;
+    }
+}
+
+// 2^e times block d is added to block c
+pub fn extend(n: usize, e: u32, buf: &mut [i64], c: usize, d: usize)
+    requires { ⌜ Extend n e (now buf) c d ⌝ }
+    ensures { λ _. ⌜ Put n (λ (i j : ℕ). block n (now (buf .entry)) c i j +ℤ pos (2 ^ e) *ℤ block n (now (buf .entry)) d i j) c (now (buf .entry)) (now (buf .exit)) ⌝ }
+{
+    let m = n * n;
+    let ca = c * m;
+    let da = d * m;
+    let x = numbers::pow2(e);
+    let mut t: usize = 0;
+    while t < m {
+        let v = numbers::mac(buf[ca + t], x, buf[da + t]);
+        buf[ca + t] = v;
+        t += 1;
+    }
+}
+
+// 1 on the diagonal, 0 elsewhere
+fn unit(i: usize, j: usize) -> i64
+    ensures { λ r. ⌜ r ≡ δ i j ⌝ }
+{
+    if i == j { 1 } else { 0 }
+}
+
+// block o becomes the identity
+pub fn identity(n: usize, buf: &mut [i64], o: usize)
+    requires { ⌜ (IsOrder n) × (Has n (now buf) o) ⌝ }
+    ensures { λ _. ⌜ Put n δ o (now (buf .entry)) (now (buf .exit)) ⌝ }
+{
+    let m = n * n;
+    let oa = o * m;
+    let mut t: usize = 0;
+    let mut i: usize = 0;
+    let mut j: usize = 0;
+    while t < m {
+        buf[oa + t] = unit(i, j);
+        t += 1;
+        j += 1;
+        if j == n {
+            j = 0;
+            i += 1;
+        }
+    }
+}
+
+// whether block o is all zero
+pub fn vanishes(n: usize, buf: &[i64], o: usize) -> bool
+    requires { ⌜ (IsOrder n) × (Has n (now buf) o) ⌝ }
+    ensures { λ r. ⌜ Vanishes n (block n (now (buf .entry)) o) r ⌝ }
+{
+    let m = n * n;
+    let oa = o * m;
+    let mut t: usize = 0;
+    while t < m {
+        if buf[oa + t] != 0 {
+            return false;
+        }
+        t += 1;
+    }
+    true
+}
+
+// the first m entries of a
+pub fn copy(m: usize, a: &[i64], buf: &mut [i64])
+    requires { ⌜ (m ≤ length (now a)) × (m ≤ length (now buf)) ⌝ }
+    ensures { λ _. ⌜ Copied m (now (a .entry)) (now (buf .entry)) (now (buf .exit)) ⌝ }
+{
+    let mut t: usize = 0;
+    while t < m {
+        buf[t] = a[t];
+        t += 1;
+    }
+}
+
+// whether every entry of block o has magnitude at most c
+pub fn within(n: usize, buf: &[i64], o: usize, c: u64) -> bool
+    requires { ⌜ (IsOrder n) × (Has n (now buf) o) ⌝ }
+    ensures { λ r. ⌜ Says (Low n c (block n (now (buf .entry)) o)) (¬ Low n c (block n (now (buf .entry)) o)) r ⌝ }
+{
+    let m = n * n;
+    let oa = o * m;
+    let mut t: usize = 0;
+    while t < m {
+        if c < numbers::mag(buf[oa + t]) {
+            return false;
+        }
+        t += 1;
+    }
+    true
+}

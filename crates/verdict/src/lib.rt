@@ -1,0 +1,209 @@
+// Verdict and inverse.
+ghost use mathlib.Core.Path.{_≡_};
+ghost use Prim.Native.Nat.{ℕ, _+_, _*_, _^_, _≤_, _<_};
+ghost use lib.ListN.{length};
+ghost use Rattle.tables.specs.Tables.{entries, block, height, IsOrder, HasWholeInverse};
+ghost use Rattle.tables.specs.Checks.{Says};
+ghost use Rattle.tables.proofs.Lawful.{Lawful};
+ghost use Rattle.lifting.specs.Lifting.{IsNeed, IsLifts};
+ghost use Rattle.verdict.specs.Verdict.{Narrow};
+ghost use Rattle.verdict.specs.Answer.{numberOf, VerdictSays, InverseSays, AllWide, Summed, Written, Wide};
+
+// The largest entry that a table may have.
+const TOP: u64 = 1048576;
+
+// The width: 2^37.
+const WIDTH: u64 = 137438953472;
+
+pub enum Ruling {
+    Yes { exponent: u32, lifts: u32 },
+    No { exponent: u32, lifts: u32 },
+    Refused(u32),
+}
+
+pub struct Outcome {
+    pub number: u32,
+    pub exponent: u32,
+    pub lifts: u32,
+}
+
+// The number of a ruling, for a host.
+pub fn number(v: Ruling) -> u32
+    ensures { λ r. ⌜ r ≡ numberOf v ⌝ }
+{
+    match v {
+        Ruling::Yes {
+            exponent: _,
+            lifts: _,
+        } => 0,
+        Ruling::No {
+            exponent: _,
+            lifts: _,
+        } => 7,
+        Ruling::Refused(k) => k,
+    }
+}
+
+// Whether A has a whole inverse, by k lifts at e: B_0 in block 0 of the buffer, the residues in blocks 1 and 2 by turns, the digits in block 3.
+fn whole(n: usize, e: u32, k: u32, a: &[i64], buf: &mut [i64]) -> bool
+    requires { ⌜ Lawful n (now a) ⌝ }
+    requires { ⌜ IsNeed n (height (now a)) e × IsLifts n k ⌝ }
+    requires { ⌜ length (now buf) ≡ 4096 ⌝ }
+    ensures { λ r. ⌜ Says (HasWholeInverse n (entries n (now (a .entry)))) (¬ HasWholeInverse n (entries n (now (a .entry)))) r ⌝ }
+{
+    if !lifting::start(n, e, a, buf) {
+        return false;
+    }
+    let mut r: usize = 1;
+    let mut s: usize = 2;
+    let mut t: u32 = 0;
+    while t < k {
+        lifting::step(n, e, a, buf, r, 3, s);
+        let q = r;
+        r = s;
+        s = q;
+        t += 1;
+    }
+    tables::blocks::vanishes(n, buf, r)
+}
+
+// The ruling, with a buffer for the work.
+fn decide(n: usize, a: &[i64], buf: &mut [i64]) -> Ruling
+    requires { ⌜ length (now buf) ≡ 4096 ⌝ }
+    ensures { λ r. ⌜ VerdictSays n (now (a .entry)) r ⌝ }
+{
+    if n < 1 {
+        return Ruling::Refused(1);
+    }
+    if 32 < n {
+        return Ruling::Refused(1);
+    }
+    if a.len() != n * n {
+        return Ruling::Refused(3);
+    }
+    let h = tables::top(a);
+    if TOP < h {
+        return Ruling::Refused(4);
+    }
+    let e = numbers::need(n as u64, h);
+    let k = numbers::lifts(n as u64);
+    if whole(n, e, k, a, buf) {
+        Ruling::Yes {
+            exponent: e,
+            lifts: k,
+        }
+    } else {
+        Ruling::No {
+            exponent: e,
+            lifts: k,
+        }
+    }
+}
+
+// Is there a whole table B with A·B = I?
+pub fn verdict(n: usize, table: &[i64]) -> Ruling
+    ensures { λ r. ⌜ VerdictSays n (now (table .entry)) r ⌝ }
+{
+    let mut buf = [0i64; 4096];
+    decide(n, table, &mut buf)
+}
+
+// The whole inverse in block 0 of the buffer, by its two digits at e = 32, B_0 + 2^32·D; or false, where no whole inverse is narrow.
+fn digits(n: usize, a: &[i64], buf: &mut [i64]) -> bool
+    requires { ⌜ Lawful n (now a) ⌝ }
+    requires { ⌜ length (now buf) ≡ 4096 ⌝ }
+    ensures { λ r. ⌜ Says (Summed n (now (a .entry)) (now (buf .exit))) (AllWide n (now (a .entry))) r ⌝ }
+{
+    if !lifting::start(n, 32, a, buf) {
+        return false;
+    }
+    lifting::digit(n, 32, a, buf, 1, 2);
+    if !tables::blocks::vanishes(n, buf, 1) {
+        return false;
+    }
+    if !tables::blocks::within(n, buf, 2, 64) {
+        return false;
+    }
+    tables::blocks::extend(n, 32, buf, 0, 2);
+    true
+}
+
+// Whether block 0 is narrow.
+fn narrow(n: usize, buf: &[i64]) -> bool
+    requires { ⌜ IsOrder n × (length (now buf) ≡ 4096) ⌝ }
+    ensures { λ r. ⌜ Says (Narrow n (block n (now (buf .entry)) 0)) (¬ Narrow n (block n (now (buf .entry)) 0)) r ⌝ }
+{
+    tables::blocks::within(n, buf, 0, WIDTH)
+}
+
+// The whole inverse into out, where it is narrow.
+fn invert(n: usize, a: &[i64], out: &mut [i64], buf: &mut [i64]) -> bool
+    requires { ⌜ Lawful n (now a) ⌝ }
+    requires { ⌜ length (now out) ≡ n * n ⌝ }
+    requires { ⌜ length (now buf) ≡ 4096 ⌝ }
+    ensures { λ done. ⌜ Says (Written n (now (a .entry)) (now (out .exit))) (Wide n (now (a .entry)) (now (out .entry)) (now (out .exit))) done ⌝ }
+{
+    if !digits(n, a, buf) {
+        return false;
+    }
+    if !narrow(n, buf) {
+        return false;
+    }
+    tables::blocks::copy(n * n, buf, out);
+    true
+}
+
+// The table B with A·B = I, into out.
+pub fn inverse(n: usize, table: &[i64], out: &mut [i64]) -> Outcome
+    ensures { λ r. ⌜ InverseSays n (now (table .entry)) (now (out .entry)) r (now (out .exit)) ⌝ }
+{
+    if n < 1 {
+        return Outcome {
+            number: 1,
+            exponent: 0,
+            lifts: 0,
+        };
+    }
+    if 32 < n {
+        return Outcome {
+            number: 1,
+            exponent: 0,
+            lifts: 0,
+        };
+    }
+    if out.len() != n * n {
+        return Outcome {
+            number: 3,
+            exponent: 0,
+            lifts: 0,
+        };
+    }
+    let mut buf = [0i64; 4096];
+    match decide(n, table, &mut buf) {
+        Ruling::Refused(k) => Outcome {
+            number: k,
+            exponent: 0,
+            lifts: 0,
+        },
+        Ruling::No { exponent, lifts } => Outcome {
+            number: 7,
+            exponent,
+            lifts,
+        },
+        Ruling::Yes { exponent, lifts } => {
+            if invert(n, table, out, &mut buf) {
+                Outcome {
+                    number: 0,
+                    exponent,
+                    lifts,
+                }
+            } else {
+                Outcome {
+                    number: 8,
+                    exponent,
+                    lifts,
+                }
+            }
+        }
+    }
+}
