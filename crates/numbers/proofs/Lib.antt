@@ -18,3 +18,4 @@ pub mod Leasts
 pub mod Bridge
 pub mod Division
 pub mod Refusals
+pub mod Says

@@ -6,9 +6,10 @@ ghost use lib.ListN.{length, getD};
 ghost use lib.Signed.{shrZ};
 ghost use Rattle.numbers.specs.Numbers.{δ};
 ghost use Rattle.numbers.proofs.Rem.{rem};
-ghost use Rattle.tables.specs.Tables.{_·⟨_⟩_, entries, block, height, IsOrder};
+ghost use Rattle.tables.specs.Tables.{_·⟨_⟩_, entries, block, height};
+ghost use Rattle.numbers.specs.Limits.{IsOrder};
 ghost use Rattle.tables.specs.Buffer.{tableAt, Low, Has, Dot, Product, Shrink, Put, Balance, Extend, Vanishes, Copied};
-ghost use Rattle.tables.specs.Checks.{Says};
+ghost use Rattle.numbers.specs.Says.{Says};
 
 // entry (i, k) of the table at place p
 fn cell(n: usize, a: &[i64], p: usize, i: usize, k: usize) -> i64

@@ -1,18 +1,32 @@
-// Square tables of whole numbers.
-ghost use mathlib.Core.Path.{_≡_};
-ghost use Rattle.tables.specs.Tables.{height};
+// Square tables of whole numbers: the view of a row, the checks of a lent table, and the work on tables in a buffer.
+ghost use Rattle.numbers.specs.Says.{Tells};
+ghost use Rattle.tables.specs.Views.{HasRow, RowGives};
 
 pub mod blocks;
+pub mod checks;
 
-// the larger of 1 and the greatest magnitude of an entry
-pub fn top(a: &[i64]) -> u64
-    ensures { λ r. ⌜ r ≡ height (now (a .entry)) ⌝ }
+// Row i (from 0) of a table of order n, as a part of the caller's own buffer; or the empty stretch at its start.
+pub fn row(n: usize, table: &[i64], i: usize) -> &[i64]
+    ensures { λ r. ⌜ RowGives n (table .entry) i r ⌝ }
 {
-    let mut h: u64 = 1;
-    let mut i: usize = 0;
-    while i < a.len() {
-        h = numbers::larger(h, numbers::mag(a[i]));
-        i += 1;
+    if has_row(n, table.len(), i) {
+        let p = i * n;
+        let q = p + n;
+        &table[p..q]
+    } else {
+        &table[..0]
     }
-    h
+}
+
+// Whether a table of `size` numbers has a row i at order n.
+fn has_row(n: usize, size: usize, i: usize) -> bool
+    ensures { λ r. ⌜ Tells (HasRow n size i) r ⌝ }
+{
+    if !checks::is_order(n) {
+        return false;
+    }
+    if size != n * n {
+        return false;
+    }
+    i < n
 }

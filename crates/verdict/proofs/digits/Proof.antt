@@ -1,6 +1,6 @@
 use Rattle.verdict.proofs.Width.{even-wide, rest-wide, high-wide, extend-asks, summed}
 use Rattle.lifting.proofs.Holding.{in-buffer, to-start, holds-first, holds-stage, enough-32}
-use Rattle.tables.proofs.Answers.{say-yes, say-no}
+use Rattle.numbers.proofs.Says.{say-yes, say-no}
 use borrow.Author.Tests.{not-true, not-false}
 use native.Mathlib.Omega.{arith}
 use Prim.Native.Nat.{ℕ, _≤_, _<_, _-_, _+_, _^_}

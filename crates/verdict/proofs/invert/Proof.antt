@@ -1,7 +1,7 @@
 use Rattle.lifting.proofs.Holding.{in-buffer}
 use Rattle.verdict.proofs.Width.{not-narrow, written}
 use Rattle.tables.proofs.Buffers.{square-small}
-use Rattle.tables.proofs.Answers.{say-yes, say-no}
+use Rattle.numbers.proofs.Says.{say-yes, say-no}
 use borrow.Author.Tests.{not-true, not-false}
 use native.Mathlib.Omega.{arith}
 use mathlib.Core.Path.{_≡_, refl, sym, ap, _∙_}

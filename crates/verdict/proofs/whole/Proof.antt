@@ -2,7 +2,7 @@ use mathlib.Core.Path.{refl}
 use Rattle.verdict.proofs.Rule.{judged}
 use Rattle.lifting.proofs.Holding.{in-buffer, to-start, Holds, holds-first, holds-stage, holds-step, need-upto}
 use Rattle.tables.proofs.Inverses.{whole-mod}
-use Rattle.tables.proofs.Answers.{say-no}
+use Rattle.numbers.proofs.Says.{say-no}
 use lib.ListN.{length}
 use borrow.Author.Tests.{not-true, not-false}
 use native.Mathlib.Omega.{arith}

@@ -1,4 +1,5 @@
-use Rattle.tables.proofs.Answers.{say-yes, say-no, low-of, low-at}
+use Rattle.tables.proofs.Answers.{low-of, low-at}
+use Rattle.numbers.proofs.Says.{say-yes, say-no}
 use Rattle.tables.proofs.Buffers.{square-small}
 use Rattle.numbers.proofs.Machine.{rd-ok}
 use lib.ListN.{length, getD}
