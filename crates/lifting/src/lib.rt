@@ -7,7 +7,8 @@ ghost use Rattle.tables.specs.Checks.{Lawful};
 ghost use Rattle.lifting.specs.Lifting.{LiftGives, Enough};
 ghost use Rattle.lifting.specs.Steps.{ToStep, Stepped, ToDigit, Digited, ToDouble, Doubled, ToFinish, Finished, Started, ToStart, Parity, Early, Begun};
 ghost use Rattle.tables.specs.Buffer.{Has};
-ghost use Rattle.lifting.specs.Views.{BlockGives};
+ghost use Rattle.lifting.specs.Views.{HasBlock, BlockGives};
+ghost use Rattle.numbers.specs.Says.{Tells};
 
 // from B_0 in block 0 and R_i in block r: M_i in block m, R_{i+1} in block s
 pub fn step(n: usize, e: u32, a: &[i64], buf: &mut [i64], r: usize, m: usize, s: usize)
@@ -84,10 +85,7 @@ pub fn start(n: usize, e: u32, a: &[i64], buf: &mut [i64]) -> bool
 fn early(n: usize, s: usize, e: u32, a: &[i64], size: usize) -> u32
     ensures { λ r. ⌜ Early n s e (now (a .entry)) size r ⌝ }
 {
-    if n == 0 {
-        return 1;
-    }
-    if 32 < n {
+    if !tables::checks::is_order(n) {
         return 1;
     }
     if 4 < s {
@@ -100,14 +98,13 @@ fn early(n: usize, s: usize, e: u32, a: &[i64], size: usize) -> u32
     if size != (2 * s + 2) * m {
         return 3;
     }
-    let h = tables::top(a);
-    if 1048576 < h {
+    if !tables::checks::is_legal(n, a) {
         return 4;
     }
     if 32 < e {
         return 5;
     }
-    if e < numbers::need(n as u64, h) {
+    if e < numbers::need(n as u64, tables::checks::top(a)) {
         return 5;
     }
     0
@@ -154,27 +151,32 @@ pub fn lift(n: usize, lifts: usize, exponent: u32, table: &[i64], expansion: &mu
     0
 }
 
-// block j of an expansion, or the empty stretch at its start
+// block j of an expansion, as a part of the caller's own buffer; or the empty stretch at its start
 pub fn block(n: usize, lifts: usize, expansion: &[i64], j: usize) -> &[i64]
     ensures { λ r. ⌜ BlockGives n lifts (expansion .entry) j r ⌝ }
 {
-    if n == 0 {
-        return &expansion[..0];
+    if has_block(n, lifts, expansion.len(), j) {
+        let m = n * n;
+        let p = j * m;
+        let q = p + m;
+        &expansion[p..q]
+    } else {
+        &expansion[..0]
     }
-    if 32 < n {
-        return &expansion[..0];
+}
+
+// whether a buffer of `size` numbers is an expansion with a block j
+fn has_block(n: usize, lifts: usize, size: usize, j: usize) -> bool
+    ensures { λ r. ⌜ Tells (HasBlock n lifts size j) r ⌝ }
+{
+    if !tables::checks::is_order(n) {
+        return false;
     }
     if 4 < lifts {
-        return &expansion[..0];
+        return false;
     }
-    let m = n * n;
-    if expansion.len() != (2 * lifts + 2) * m {
-        return &expansion[..0];
+    if size != (2 * lifts + 2) * (n * n) {
+        return false;
     }
-    if 2 * lifts + 1 < j {
-        return &expansion[..0];
-    }
-    let p = j * m;
-    let q = p + m;
-    &expansion[p..q]
+    j <= 2 * lifts + 1
 }
