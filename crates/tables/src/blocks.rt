@@ -6,10 +6,10 @@ ghost use lib.ListN.{length, getD};
 ghost use lib.Signed.{shrZ};
 ghost use Rattle.numbers.specs.Numbers.{δ};
 ghost use Rattle.numbers.proofs.Rem.{rem};
-ghost use Rattle.tables.specs.Tables.{_·⟨_⟩_, entries, block, height};
+ghost use Rattle.tables.specs.Tables.{_·⟨_⟩_, _≈⟨_⟩_, entries, block, height};
 ghost use Rattle.numbers.specs.Limits.{IsOrder};
-ghost use Rattle.tables.specs.Buffer.{tableAt, Low, Has, Dot, Product, Shrink, Put, Balance, Extend, Vanishes, Copied};
-ghost use Rattle.numbers.specs.Says.{Says};
+ghost use Rattle.tables.specs.Buffer.{tableAt, Low, Has, Dot, Product, Shrink, Put, Balance, Extend, Copied};
+ghost use Rattle.numbers.specs.Says.{Tells};
 
 // entry (i, k) of the table at place p
 fn cell(n: usize, a: &[i64], p: usize, i: usize, k: usize) -> i64
@@ -144,7 +144,7 @@ pub fn identity(n: usize, buf: &mut [i64], o: usize)
 // whether block o is all zero
 pub fn vanishes(n: usize, buf: &[i64], o: usize) -> bool
     requires { ⌜ (IsOrder n) × (Has n (now buf) o) ⌝ }
-    ensures { λ r. ⌜ Vanishes n (block n (now (buf .entry)) o) r ⌝ }
+    ensures { λ r. ⌜ Tells (block n (now (buf .entry)) o ≈⟨ n ⟩ (λ (i j : ℕ). pos 0)) r ⌝ }
 {
     let m = n * n;
     let oa = o * m;
@@ -173,7 +173,7 @@ pub fn copy(m: usize, a: &[i64], buf: &mut [i64])
 // whether every entry of block o has magnitude at most c
 pub fn within(n: usize, buf: &[i64], o: usize, c: u64) -> bool
     requires { ⌜ (IsOrder n) × (Has n (now buf) o) ⌝ }
-    ensures { λ r. ⌜ Says (Low n c (block n (now (buf .entry)) o)) (¬ Low n c (block n (now (buf .entry)) o)) r ⌝ }
+    ensures { λ r. ⌜ Tells (Low n c (block n (now (buf .entry)) o)) r ⌝ }
 {
     let m = n * n;
     let oa = o * m;

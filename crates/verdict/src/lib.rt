@@ -4,14 +4,11 @@ ghost use Prim.Native.Nat.{ℕ, _+_, _*_, _^_, _≤_, _<_};
 ghost use lib.ListN.{length};
 ghost use Rattle.tables.specs.Tables.{entries, block, height, HasWholeInverse};
 ghost use Rattle.numbers.specs.Limits.{IsOrder};
-ghost use Rattle.numbers.specs.Says.{Says};
+ghost use Rattle.numbers.specs.Says.{Says, Tells};
 ghost use Rattle.tables.specs.Checks.{Lawful};
 ghost use Rattle.lifting.specs.Lifting.{IsNeed, IsLifts};
-ghost use Rattle.verdict.specs.Verdict.{Narrow};
-ghost use Rattle.verdict.specs.Answer.{numberOf, VerdictSays, InverseSays, AllWide, Summed, Written, Wide};
-
-// The largest entry that a table may have.
-const TOP: u64 = 1048576;
+ghost use Rattle.verdict.specs.Verdict.{Narrow, outcomeOf, VerdictGives, InverseGives};
+ghost use Rattle.verdict.specs.Parts.{AllWide, Summed, Written, Wide};
 
 // The width: 2^37.
 const WIDTH: u64 = 137438953472;
@@ -30,7 +27,7 @@ pub struct Outcome {
 
 // The number of a ruling, for a host.
 pub fn number(v: Ruling) -> u32
-    ensures { λ r. ⌜ r ≡ numberOf v ⌝ }
+    ensures { λ r. ⌜ r ≡ outcomeOf v .number ⌝ }
 {
     match v {
         Ruling::Yes {
@@ -50,7 +47,7 @@ fn whole(n: usize, e: u32, k: u32, a: &[i64], buf: &mut [i64]) -> bool
     requires { ⌜ Lawful n (now a) ⌝ }
     requires { ⌜ IsNeed n (height (now a)) e × IsLifts n k ⌝ }
     requires { ⌜ length (now buf) ≡ 4096 ⌝ }
-    ensures { λ r. ⌜ Says (HasWholeInverse n (entries n (now (a .entry)))) (¬ HasWholeInverse n (entries n (now (a .entry)))) r ⌝ }
+    ensures { λ r. ⌜ Tells (HasWholeInverse n (entries n (now (a .entry)))) r ⌝ }
 {
     if !lifting::start(n, e, a, buf) {
         return false;
@@ -71,22 +68,18 @@ fn whole(n: usize, e: u32, k: u32, a: &[i64], buf: &mut [i64]) -> bool
 // The ruling, with a buffer for the work.
 fn decide(n: usize, a: &[i64], buf: &mut [i64]) -> Ruling
     requires { ⌜ length (now buf) ≡ 4096 ⌝ }
-    ensures { λ r. ⌜ VerdictSays n (now (a .entry)) r ⌝ }
+    ensures { λ r. ⌜ VerdictGives n (now (a .entry)) (outcomeOf r) ⌝ }
 {
-    if n < 1 {
-        return Ruling::Refused(1);
-    }
-    if 32 < n {
+    if !tables::checks::is_order(n) {
         return Ruling::Refused(1);
     }
     if a.len() != n * n {
         return Ruling::Refused(3);
     }
-    let h = tables::top(a);
-    if TOP < h {
+    if !tables::checks::is_legal(n, a) {
         return Ruling::Refused(4);
     }
-    let e = numbers::need(n as u64, h);
+    let e = numbers::need(n as u64, tables::checks::top(a));
     let k = numbers::lifts(n as u64);
     if whole(n, e, k, a, buf) {
         Ruling::Yes {
@@ -103,7 +96,7 @@ fn decide(n: usize, a: &[i64], buf: &mut [i64]) -> Ruling
 
 // Is there a whole table B with A·B = I?
 pub fn verdict(n: usize, table: &[i64]) -> Ruling
-    ensures { λ r. ⌜ VerdictSays n (now (table .entry)) r ⌝ }
+    ensures { λ r. ⌜ VerdictGives n (now (table .entry)) (outcomeOf r) ⌝ }
 {
     let mut buf = [0i64; 4096];
     decide(n, table, &mut buf)
@@ -132,7 +125,7 @@ fn digits(n: usize, a: &[i64], buf: &mut [i64]) -> bool
 // Whether block 0 is narrow.
 fn narrow(n: usize, buf: &[i64]) -> bool
     requires { ⌜ IsOrder n × (length (now buf) ≡ 4096) ⌝ }
-    ensures { λ r. ⌜ Says (Narrow n (block n (now (buf .entry)) 0)) (¬ Narrow n (block n (now (buf .entry)) 0)) r ⌝ }
+    ensures { λ r. ⌜ Tells (Narrow n (block n (now (buf .entry)) 0)) r ⌝ }
 {
     tables::blocks::within(n, buf, 0, WIDTH)
 }
@@ -156,16 +149,9 @@ fn invert(n: usize, a: &[i64], out: &mut [i64], buf: &mut [i64]) -> bool
 
 // The table B with A·B = I, into out.
 pub fn inverse(n: usize, table: &[i64], out: &mut [i64]) -> Outcome
-    ensures { λ r. ⌜ InverseSays n (now (table .entry)) (now (out .entry)) r (now (out .exit)) ⌝ }
+    ensures { λ r. ⌜ InverseGives n (now (table .entry)) (now (out .entry)) r (now (out .exit)) ⌝ }
 {
-    if n < 1 {
-        return Outcome {
-            number: 1,
-            exponent: 0,
-            lifts: 0,
-        };
-    }
-    if 32 < n {
+    if !tables::checks::is_order(n) {
         return Outcome {
             number: 1,
             exponent: 0,

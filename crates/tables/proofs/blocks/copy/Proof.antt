@@ -4,9 +4,8 @@ use native.Mathlib.Omega.{arith}
 use lib.IntN.{ℤ, pos, natAbs, _+ℤ_, _-ℤ_, _*ℤ_}
 use lib.ListN.{length, getD}
 use Rattle.numbers.proofs.Machine.{rd, rd-is, rd-ok, rd-got}
-use Rattle.numbers.proofs.Sum.{δ}
-use Rattle.tables.specs.Tables.{_·⟨_⟩_, block, entries}
-use Rattle.tables.proofs.Wrote.{Wrote, wrote-none, wrote-more}
+use mathlib.Core.Logic.{_≢_}
+use Rattle.tables.specs.Buffer.{Copied}
 use lib.Seq.{getD-set-same, getD-set-other}
 use lib.ListN.{set, length-set}
 use borrow.Author.Count.{below-more}
@@ -16,7 +15,7 @@ use Rattle.tables.proofs.blocks.copy.Reads as reads
 use Rattle.tables.proofs.blocks.copy.Lts as lts
 
 abbrev Inv-loop : tie.InvT-loop
-Inv-loop m a buf₀ t₀ buf t = (t ≤ m) × ((length buf ≡ length buf₀) × ((k : ℕ) → k < t → getD buf k (pos 0) ≡ getD a k (pos 0)))
+Inv-loop m a buf₀ t₀ buf t = (t ≤ m) × Copied t a buf₀ buf
 
 abbrev μ-loop : tie.MeasureT-loop
 μ-loop m a buf₀ t₀ buf t = m - t
@@ -25,10 +24,13 @@ none : (k : ℕ) → k < 0 → ⊥
 none k h = omega arith
 
 loop-holds : tie.Need-loop-holds Inv-loop μ-loop
-loop-holds c = (omega arith, (refl, λ k h. absurd (none k h)))
+loop-holds c = (omega arith, record { long = refl; same = λ k h. absurd (none k h); rest = λ k h. refl })
 
 apart : (k t : ℕ) → k < t → k ≡ t → ⊥
 apart k t h q = omega arith
+
+past : (k t : ℕ) → t + 1 ≤ k → (k ≢ t) × (t ≤ k)
+past k t h = (λ q. omega arith, omega arith)
 
 loop-again : tie.Need-loop-again Inv-loop μ-loop
 loop-again c =
@@ -37,21 +39,22 @@ loop-again c =
     let v = l .loop .inv in
     let e = rd-ok (getD (g .a .now) (l .loop .t) (pos 0)) (c .buf .given) in (
       omega arith,
-      (
-        length-set (l .loop .buf) (l .loop .t) _ ∙ v .1 .0,
-        below-more (λ (k : ℕ). getD (set (l .loop .buf) (l .loop .t) (rd (getD (g .a .now) (l .loop .t) (pos 0)))) k (pos 0) ≡ getD (g .a .now) k (pos 0)) (l .loop .t)
-            (λ k h. getD-set-other (l .loop .buf) (l .loop .t) k _ (pos 0) (λ q. apart k _ h q) ∙ v .1 .1 k h)
-            (getD-set-same (l .loop .buf) (l .loop .t) _ (pos 0) (omega arith) ∙ e),
-      ),
+      record {
+        long = length-set (l .loop .buf) (l .loop .t) _ ∙ v .1 .long;
+        same = below-more (λ (k : ℕ). getD (set (l .loop .buf) (l .loop .t) (rd (getD (g .a .now) (l .loop .t) (pos 0)))) k (pos 0) ≡ getD (g .a .now) k (pos 0)) (l .loop .t)
+            (λ k h. getD-set-other (l .loop .buf) (l .loop .t) k _ (pos 0) (λ q. apart k _ h q) ∙ v .1 .same k h)
+            (getD-set-same (l .loop .buf) (l .loop .t) _ (pos 0) (omega (arith, v .1 .long)) ∙ e);
+        rest = λ k h. getD-set-other (l .loop .buf) (l .loop .t) k _ (pos 0) (past k _ h .0) ∙ v .1 .rest k (past k _ h .1);
+      },
     )
 
 same-length : tie.Need-same-length Inv-loop μ-loop
-same-length c = c .before .loop .inv .1 .0
+same-length c = c .before .loop .inv .1 .long
 
 returns : tie.Need-returns Inv-loop μ-loop
 returns c =
     let e : c .before .loop .t ≡ c .before .before .args .m = omega arith in
-    record { long = c .before .loop .inv .1 .0; same = rw e at (c .before .loop .inv .1 .1) }
+    rw e at (c .before .loop .inv .1)
 
 mul-buf : tie.Need-mul-buf Inv-loop μ-loop
 mul-buf c = omega arith

@@ -5,12 +5,8 @@ use lib.IntN.{ℤ, pos, natAbs, _+ℤ_, _-ℤ_, _*ℤ_}
 use borrow.Author.Count.{below-more}
 use lib.ListN.{length, getD}
 use Rattle.numbers.proofs.Machine.{rd, rd-is, rd-ok, rd-got, bits-zero, zero-bits}
-use Rattle.numbers.proofs.Sum.{δ}
-use Rattle.tables.specs.Tables.{_·⟨_⟩_, block, entries}
-use Rattle.tables.proofs.Wrote.{Wrote, wrote-none, wrote-more}
-use mathlib.Core.Bool.{true, false}
-use Rattle.tables.specs.Buffer.{Vanishes}
-use Rattle.tables.proofs.Buffers.{square-small, vanishes-yes, vanishes-no}
+use Rattle.numbers.proofs.Says.{say-yes, say-no}
+use Rattle.tables.proofs.Buffers.{square-small, zero-of, zero-at}
 use Rattle.tables.proofs.blocks.vanishes.Statement.{statement}
 use Rattle.tables.proofs.blocks.vanishes.Tie as tie
 use Rattle.tables.proofs.blocks.vanishes.Reads as reads
@@ -43,13 +39,13 @@ returns : tie.Need-returns Inv-loop μ-loop
 returns c =
     let l = c .before .before .before in
     let s = l .before in
-    vanishes-no (s .args .buf .now) (s .args .o) (l .loop .t) (s .pre .0) (c .before .before .loop-test .taken) (λ e. c .if1 .taken (zero-bits _ e))
+    say-no (λ z. c .if1 .taken (zero-bits _ (zero-at (s .args .buf .now) (s .args .o) (l .loop .t) (s .pre .0) (c .before .before .loop-test .taken) z)))
 
 returns-2 : tie.Need-returns-2 Inv-loop μ-loop
 returns-2 c =
     let s = c .before .before in
     let e : c .before .loop .t ≡ s .args .n * s .args .n = omega arith in
-    vanishes-yes (s .args .buf .now) (s .args .o) (rw e at (c .before .loop .inv .1))
+    say-yes (zero-of (s .args .buf .now) (s .args .o) (rw e at (c .before .loop .inv .1)))
 
 mul-oa : tie.Need-mul-oa Inv-loop μ-loop
 mul-oa c = omega arith
