@@ -1,0 +1,76 @@
+-- What the host's calls give, from what verdict and inverse give for the decoded table.
+use mathlib.Core.Path.{_≡_, refl, sym, subst, _∙_}
+use mathlib.Core.Logic.{_≢_, _⊎_, inl, inr, ⊎-elim}
+use mathlib.Core.List.{List}
+use Prim.Native.Nat.{ℕ, _*_}
+use native.Mathlib.Omega.{arith}
+use lib.IntN.{ℤ}
+use lib.ListN.{length}
+use Rattle.numbers.specs.Limits.{IsOrder}
+use Rattle.numbers.specs.Refusals.{Gives}
+use Rattle.numbers.proofs.Refusals.{Lowest, gives-lowest}
+use Rattle.verdict.specs.Verdict.{outcomeOf, verdictRefusals, VerdictGives, inverseRefusals, InverseGives}
+use Rattle.verdict.specs.declared.Ruling.{Ruling}
+use Rattle.verdict.specs.declared.Outcome.{Outcome}
+use Rattle.host.specs.Bytes.{decode, encode}
+use Rattle.host.specs.Host.{hostVerdictRefusals, HostVerdictGives, hostInverseRefusals, HostInverseGives}
+use Rattle.host.proofs.Bytes.{length-decode}
+
+-- document 01: the lowest number that applies is given
+pub host-verdict-lowest : {n : ℕ} {T : List ℕ} {k : ℕ} → HostVerdictGives n T k → Lowest (hostVerdictRefusals n T) k
+host-verdict-lowest {n} {T} p = gives-lowest 0 (hostVerdictRefusals n T) (omega arith) (p .number)
+
+pub host-inverse-lowest : {n : ℕ} {T O : List ℕ} {k : ℕ} {E : List ℕ} → HostInverseGives n T O k E → Lowest (hostInverseRefusals n T O) k
+host-inverse-lowest {n} {T} {O} p = gives-lowest 0 (hostInverseRefusals n T O) (omega arith) (p .number)
+
+-- ---- verdict
+
+module _ {n : ℕ} {T : List ℕ} where
+  pub host-verdict-order : ¬ IsOrder n → HostVerdictGives n T 1
+  host-verdict-order f = record { number = inl (f, refl); whole = λ z. absurd (omega arith) }
+
+  pub host-verdict-length : IsOrder n → length T ≢ 4 * (n * n) → HostVerdictGives n T 3
+  host-verdict-length o f = record { number = inr (λ g. g o, inl (f, refl)); whole = λ z. absurd (omega arith) }
+
+-- the lengths apart, the numbers are those of the decoded table
+verdict-number : (n : ℕ) (T : List ℕ) {k : ℕ} → length T ≡ 4 * (n * n) → Gives (verdictRefusals n (decode T)) k → Gives (hostVerdictRefusals n T) k
+verdict-number n T e (inl g) = inl g
+verdict-number n T e (inr (o, inl (f, q))) = absurd (f (length-decode (n * n) T e))
+verdict-number n T e (inr (o, inr (a, g))) = inr (o, inr (λ f. f e, g))
+
+pub host-verdict : {n : ℕ} {T : List ℕ} {L : List ℤ} (r : Ruling) {k : ℕ} → length T ≡ 4 * (n * n) → L ≡ decode T → VerdictGives n L (outcomeOf r) → k ≡ outcomeOf r .number → HostVerdictGives n T k
+host-verdict {n} {T} r e q v i =
+    let w : VerdictGives n (decode T) (outcomeOf r) = subst (λ (M : List ℤ). VerdictGives n M (outcomeOf r)) q v in
+    subst (HostVerdictGives n T) (sym i) (record { number = verdict-number n T e (w .number); whole = w .whole })
+
+-- ---- inverse
+
+module _ {n : ℕ} {T O : List ℕ} where
+  refused : (k : ℕ) → k ≢ 0 → Gives (hostInverseRefusals n T O) k → HostInverseGives n T O k O
+  refused k z g = record { number = g; kept = λ f. refl; written = λ e. absurd (z e) }
+
+  pub host-inverse-order : ¬ IsOrder n → HostInverseGives n T O 1 O
+  host-inverse-order f = refused 1 (λ z. omega arith) (inl (f, refl))
+
+  pub host-inverse-length : IsOrder n → (length T ≢ 4 * (n * n)) ⊎ (length O ≢ 8 * (n * n)) → HostInverseGives n T O 3 O
+  host-inverse-length o f = refused 3 (λ z. omega arith) (inr (λ g. g o, inl (f, refl)))
+
+inverse-number : (n : ℕ) (T O : List ℕ) (K : List ℤ) {k : ℕ} → length T ≡ 4 * (n * n) → length O ≡ 8 * (n * n) → length K ≡ n * n → Gives (inverseRefusals n (decode T) K) k → Gives (hostInverseRefusals n T O) k
+inverse-number n T O K e u z (inl g) = inl g
+inverse-number n T O K e u z (inr (o, inl (f, q))) = absurd (⊎-elim (λ g. g (length-decode (n * n) T e)) (λ g. g z) f)
+inverse-number n T O K e u z (inr (o, inr (a, g))) = inr (o, inr (⊎-elim (λ f. f e) (λ f. f u), g))
+
+module _ {n : ℕ} {T O : List ℕ} {L K : List ℤ} {o : Outcome} {E : List ℤ} (e : length T ≡ 4 * (n * n)) (u : length O ≡ 8 * (n * n)) (z : length K ≡ n * n) (q : L ≡ decode T) (v : InverseGives n L K o E) where
+  pub host-kept : o .number ≢ 0 → HostInverseGives n T O (o .number) O
+  host-kept f =
+      let w : InverseGives n (decode T) K o E = subst (λ (M : List ℤ). InverseGives n M K o E) q v in
+      refused (o .number) f (inverse-number n T O K e u z (w .number))
+
+  pub host-written : {F : List ℕ} → o .number ≡ 0 → F ≡ encode E → HostInverseGives n T O 0 F
+  host-written i b =
+      let w : InverseGives n (decode T) K o E = subst (λ (M : List ℤ). InverseGives n M K o E) q v in
+      record {
+        number = inverse-number n T O K e u z (subst (Gives (inverseRefusals n (decode T) K)) i (w .number));
+        kept = λ f. absurd (f refl);
+        written = λ g. record { table = E; inverse = w .written i; bytes = b };
+      }
