@@ -2,10 +2,10 @@
 ghost use mathlib.Core.Path.{_≡_};
 ghost use Prim.Native.Nat.{ℕ, _+_, _*_, _^_, _≤_, _<_};
 ghost use lib.ListN.{length};
-ghost use Rattle.tables.specs.Tables.{entries, height};
+ghost use Rattle.tables.specs.Tables.{entries};
 ghost use Rattle.tables.specs.Checks.{Lawful};
-ghost use Rattle.lifting.specs.Lifting.{LiftGives, Enough};
-ghost use Rattle.lifting.specs.Steps.{ToStep, Stepped, ToDigit, Digited, ToDouble, Doubled, ToFinish, Finished, Started, ToStart, Parity, Early, Begun};
+ghost use Rattle.lifting.specs.Lifting.{LiftGives};
+ghost use Rattle.lifting.specs.Steps.{ToStep, Stepped, ToDigit, Digited, ToDouble, Doubled, ToFinish, Finished, Started, ToStart, Parity, Early, ToBegin, Begun};
 ghost use Rattle.tables.specs.Buffer.{Has};
 ghost use Rattle.lifting.specs.Views.{HasBlock, BlockGives};
 ghost use Rattle.numbers.specs.Says.{Tells};
@@ -112,15 +112,22 @@ fn early(n: usize, s: usize, e: u32, a: &[i64], size: usize) -> u32
 
 // B_0 and R_0 in the first two blocks; false, with the buffer as it was, where a has no inverse modulo 2
 fn begin(n: usize, e: u32, a: &[i64], out: &mut [i64]) -> bool
-    requires { ⌜ (Lawful n (now a)) × ((Enough n (height (now a)) e) × ((e ≤ 32) × (2 * (n * n) ≤ length (now out)))) ⌝ }
+    requires { ⌜ ToBegin n e (now a) (now out) ⌝ }
     ensures { λ odd. ⌜ Begun n e (now (a .entry)) (now (out .entry)) odd (now (out .exit)) ⌝ }
 {
     let mut work = [0i64; 3072];
-    if !start(n, e, a, &mut work) {
+    begin_by(n, e, a, &mut work, out)
+}
+
+// the same, with a buffer of three blocks for the work
+fn begin_by(n: usize, e: u32, a: &[i64], work: &mut [i64], out: &mut [i64]) -> bool
+    requires { ⌜ ToBegin n e (now a) (now out) × (length (now work) ≡ 3072) ⌝ }
+    ensures { λ odd. ⌜ Begun n e (now (a .entry)) (now (out .entry)) odd (now (out .exit)) ⌝ }
+{
+    if !start(n, e, a, work) {
         return false;
     }
-    let m = 2 * (n * n);
-    tables::blocks::copy(m, &work, out);
+    tables::blocks::copy(2 * (n * n), work, out);
     true
 }
 
