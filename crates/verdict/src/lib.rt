@@ -25,20 +25,26 @@ pub struct Outcome {
     pub lifts: u32,
 }
 
-// The number of a ruling, for a host.
-pub fn number(v: Ruling) -> u32
-    ensures { λ r. ⌜ r ≡ outcomeOf v .number ⌝ }
+// Number, exponent and lifts of a ruling.
+pub fn outcome_of(v: Ruling) -> Outcome
+    ensures { λ r. ⌜ r ≡ outcomeOf v ⌝ }
 {
     match v {
-        Ruling::Yes {
-            exponent: _,
-            lifts: _,
-        } => 0,
-        Ruling::No {
-            exponent: _,
-            lifts: _,
-        } => 7,
-        Ruling::Refused(k) => k,
+        Ruling::Yes { exponent, lifts } => Outcome {
+            number: 0,
+            exponent,
+            lifts,
+        },
+        Ruling::No { exponent, lifts } => Outcome {
+            number: 7,
+            exponent,
+            lifts,
+        },
+        Ruling::Refused(k) => Outcome {
+            number: k,
+            exponent: 0,
+            lifts: 0,
+        },
     }
 }
 
