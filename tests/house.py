@@ -1,0 +1,82 @@
+"""Rules of the repository that the prover does not know."""
+import pathlib
+import re
+import subprocess
+
+ROOT = pathlib.Path(__file__).resolve().parent.parent
+CRATES = ROOT / "crates"
+
+# The definitions that the promises of the public calls rest on: what a reader must believe.
+BELIEVED = [
+    "numbers/specs/Numbers.antt", "numbers/specs/Limits.antt", "numbers/specs/Refusals.antt",
+    "tables/specs/Tables.antt", "tables/specs/Views.antt",
+    "lifting/specs/Lifting.antt", "lifting/specs/Views.antt",
+    "verdict/specs/Verdict.antt",
+    "host/specs/Bytes.antt", "host/specs/Host.antt",
+    "sheets/specs/Sheet.antt", "sheets/specs/Place.antt", "sheets/specs/Answer.antt",
+]
+MOST_BELIEVED = 450
+
+
+def lines(path):
+    """The lines of a file without comments, imports and blank lines."""
+    text = path.read_text(encoding="utf8").splitlines()
+    return [l for l in text if l.strip() and not re.match(r"\s*(--|//|use |ghost use |pub mod |mod )", l)]
+
+
+def layout():
+    subprocess.run(["rt", "fmt", "--check"], cwd=ROOT, check=True, capture_output=True)
+    return "rt fmt --check"
+
+
+def definitions_to_believe():
+    count = sum(len(lines(CRATES / name)) for name in BELIEVED)
+    assert count <= MOST_BELIEVED, f"{count} lines"
+    return f"{count} lines in {len(BELIEVED)} files"
+
+
+def no_shortcut():
+    """No axiom of our own, no hole, no classical axiom."""
+    for path in CRATES.rglob("*.antt"):
+        for number, line in enumerate(lines(path), 1):
+            bad = re.search(r"\b(postulate|axiom|lem|ac)\b|(?<![\w?])\?(?![\w?])", re.sub(r"--.*", "", line))
+            assert not bad, f"{path}: {line}"
+    return f"{len(list(CRATES.rglob('*.antt')))} files"
+
+
+def every_definition_file_opens_with_its_names():
+    files = [p for p in CRATES.rglob("specs/*.antt") if p.name != "Lib.antt"]
+    for path in files:
+        assert path.read_text(encoding="utf8").startswith("-- "), path
+    return f"{len(files)} files"
+
+
+def must_fail_edits_are_refused_for_a_false_fact():
+    """An edit that only makes a proof file unfit for the code shows nothing."""
+    logs = list((ROOT / "target" / "must-fail").glob("*/*/.log"))
+    edits = list(CRATES.glob("*/must-fail/*.edit"))
+    assert len(logs) == len(edits), f"{len(logs)} logs of {len(edits)} edits: run `rt ci` first"
+    for log in logs:
+        assert "that can be named from here" not in log.read_text(encoding="utf8", errors="replace"), log
+    return f"{len(edits)} edits"
+
+
+def public_calls_require_nothing():
+    calls = {
+        "tables/src/lib.rt": ["row"], "lifting/src/lib.rt": ["lift", "block"], "verdict/src/lib.rt": ["verdict", "inverse"],
+        "host/src/lib.rt": ["muljenta_verdict", "muljenta_inverse"], "sheets/src/lib.rt": ["read"],
+    }
+    for name, functions in calls.items():
+        text = (CRATES / name).read_text(encoding="utf8")
+        for function in functions:
+            head = re.search(rf"pub (?:extern \"C\" )?fn {function}\(.*?\n\{{", text, re.S)
+            assert head and "requires" not in head.group(), f"{name}: {function}"
+            assert "ensures" in head.group(), f"{name}: {function}"
+    return f"{sum(map(len, calls.values()))} calls"
+
+
+def checks(folder):
+    return [
+        layout, definitions_to_believe, no_shortcut, every_definition_file_opens_with_its_names,
+        must_fail_edits_are_refused_for_a_false_fact, public_calls_require_nothing,
+    ]
