@@ -16,7 +16,7 @@ use Rattle.tables.specs.Checks.{Lawful}
 use Rattle.tables.proofs.TwoSided.{inverse-unique}
 use Rattle.tables.proofs.Views.{both?, order?}
 use Rattle.lifting.specs.Lifting.{IsNeed, IsLifts}
-use Rattle.verdict.specs.Verdict.{IsNarrow, Narrow, TooWide, outcomeOf, Told, after-0, after-7, after-8, Values, verdictRefusals, VerdictGives, inverseRefusals, InverseGives}
+use Rattle.verdict.specs.Verdict.{IsNarrow, Narrow, TooWide, answer, outcomeOf, Told, after-0, after-7, after-8, Values, verdictRefusals, VerdictGives, inverseRefusals, InverseGives}
 use Rattle.verdict.specs.Parts.{AllWide, Written}
 use Rattle.verdict.specs.declared.Ruling.{Ruling}
 use Rattle.verdict.specs.declared.Ruling.the-variants.{Yes, No, Refused}
@@ -30,9 +30,6 @@ pub inverse-lowest : {n : ℕ} {A L : List ℤ} {o : Outcome} {E : List ℤ} →
 inverse-lowest {n} {A} {L} p = gives-lowest 0 (inverseRefusals n A L) (omega arith) (p .number)
 
 -- ---- the two values
-
-abbrev pub answer : ℕ → ℕ → ℕ → Outcome
-answer k e l = record { number = k; exponent = e; lifts = l }
 
 -- a number that tells no values
 pub untold : (k : ℕ) → k ≢ 0 → k ≢ 7 → k ≢ 8 → ¬ Told k
