@@ -3,6 +3,7 @@ ghost use mathlib.Core.Path.{_≡_};
 ghost use Rattle.tables.specs.Tables.{height};
 
 pub mod blocks;
+pub mod parity;
 
 // the larger of 1 and the greatest magnitude of an entry
 pub fn top(a: &[i64]) -> u64

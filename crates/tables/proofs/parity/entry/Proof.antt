@@ -1,0 +1,39 @@
+use mathlib.Core.Path.{_≡_, sym, ap, _∙_}
+use Prim.Native.Nat.{ℕ, _*_, _/_, _%_, _<_}
+use native.Mathlib.Nat.{div-lt-iff-lt-mul, mod-lt}
+use native.Mathlib.Omega.{arith}
+use lib.IntN.{pos}
+use Rattle.tables.specs.Tables.{IsOrder}
+use Rattle.tables.proofs.Elimination.Bits.{bit-one}
+use Rattle.tables.proofs.parity.entry.Statement.{statement}
+use Rattle.tables.proofs.parity.entry.Tie as tie
+
+-- the row and the column of a place
+place : {n q : ℕ} → IsOrder n → q < n * n → (q / n < n) × (q % n < n)
+place {n} {q} o h = (div-lt-iff-lt-mul {k = n} (o .from) .1 h, mod-lt q (o .from))
+
+rem-bit : tie.Need-rem-bit
+rem-bit c = omega (arith, c .pre .0 .from)
+
+mul-bit : tie.Need-mul-bit
+mul-bit c = omega (arith, place (c .pre .0) (c .pre .1))
+
+element-copy-out-bit : tie.Need-element-copy-out-bit
+element-copy-out-bit c = omega (arith, place (c .pre .0) (c .pre .1))
+
+div-bit : tie.Need-div-bit
+div-bit c = omega (arith, c .before .pre .0 .from)
+
+bit-requires : tie.Need-bit-requires
+bit-requires c κs = omega (arith, place (c .before .pre .0) (c .before .pre .1))
+
+returns : tie.Need-returns
+returns c = ap pos (sym (bit-one _ _ (λ e. c .if1 .taken (c .before .bit .ensures ∙ e))))
+
+returns-2 : tie.Need-returns-2
+returns-2 c = ap pos (sym (c .if1 .left) ∙ c .before .bit .ensures)
+
+pub entry-spec : {M : Type 1} → statement M
+entry-spec =
+    tie.close
+    (tie.spec rem-bit mul-bit element-copy-out-bit div-bit bit-requires returns returns-2)
