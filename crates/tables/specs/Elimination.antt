@@ -6,7 +6,7 @@
 --   None m k r P                  row r of P is 0 from column r up to column k
 -- Assumes nothing.
 use Prim.Native.Nat.{ℕ, suc, _≤_, _<_}
-use lib.IntN.{ℤ, pos}
+use lib.IntN.{pos}
 use Rattle.numbers.specs.Numbers.{Cong, δ}
 use Rattle.tables.specs.Tables.{Matrix, _·⟨_⟩_, CongM}
 

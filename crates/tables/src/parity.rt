@@ -1,8 +1,8 @@
 // The inverse modulo 2: an elimination on words, each a column of the table.
 ghost use mathlib.Core.Path.{_≡_};
-ghost use Prim.Native.Nat.{ℕ, suc, _*_, _/_, _%_, _^_, _<_, _≤_};
+ghost use Prim.Native.Nat.{_*_, _/_, _%_, _^_, _<_, _≤_};
 ghost use lib.Bits.{bitXor};
-ghost use lib.IntN.{ℤ, pos};
+ghost use lib.IntN.{pos};
 ghost use lib.ListN.{length, getD, set};
 ghost use Rattle.numbers.specs.Numbers.{Cong, δ};
 ghost use Rattle.numbers.specs.Says.{Says};

@@ -1,18 +1,18 @@
 -- The elimination from its start to its two ends: P is I, and then C is an inverse of A; or row r has no entry from column r on,
 -- and then the row u = δ_r - P_r kills P and so A, while its entry r is 1.
 -- Assumes nothing.
-use mathlib.Core.Path.{_≡_, refl, sym, ap, ap₂, _∙_, subst}
+use mathlib.Core.Path.{_≡_, sym, ap, subst}
 use mathlib.Core.Logic.{_≢_}
 use Prim.Native.Nat.{ℕ, suc, _+_, _≤_, _<_}
 use native.Mathlib.Decide.{ℕ-discrete, decLt}
 use native.Mathlib.Omega.{arith}
 use borrow.Author.Count.{below-more}
-use lib.IntN.{ℤ, pos, _+ℤ_, _-ℤ_, _*ℤ_}
+use lib.IntN.{ℤ, pos, _+ℤ_, _*ℤ_}
 use Rattle.numbers.proofs.RingSolver.{ring, #_, _⊕_, _⊖_, _⊗_, _≐_}
 use Rattle.numbers.proofs.Sum.{δ, δ-same, δ-other}
 use Rattle.numbers.proofs.Congruence.{Cong, cong-of-eq, cong-sym, cong-trans, cong-near, cong-+, cong-*, cong-sub, cong-sum}
 use Rattle.tables.specs.Tables.{Matrix, _⊟_, _·⟨_⟩_, CongM, HasInverseMod}
-use Rattle.tables.specs.Elimination.{Kept, Going, None}
+use Rattle.tables.specs.Elimination.{Going, None}
 use Rattle.tables.proofs.Matrix.{·-⊟ʳ, ·-idˡ, ·-idʳ, congM-·}
 use Rattle.tables.proofs.Inverses.{congM-eq, congM-refl, congM-sym, congM-trans, no-inverse}
 use Rattle.tables.proofs.Elimination.Steps.{cong-refl, cong-down, Stepped, going-add}

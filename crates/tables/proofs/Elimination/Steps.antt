@@ -2,11 +2,11 @@
 -- and where W·P comes to 0 it was 0.
 -- Assumes nothing.
 use mathlib.Core.Path.{_≡_, refl, sym, ap, ap₂, _∙_, subst}
-use mathlib.Core.Logic.{_≢_, _⊎_, inl, inr, ⊎-elim}
-use Prim.Native.Nat.{ℕ, suc, _≤_, _<_}
+use mathlib.Core.Logic.{_≢_, _⊎_, inr, ⊎-elim}
+use Prim.Native.Nat.{ℕ, _≤_, _<_}
 use native.Mathlib.Decide.{ℕ-discrete}
 use native.Mathlib.Omega.{arith}
-use lib.IntN.{ℤ, pos, _+ℤ_, _-ℤ_, _*ℤ_}
+use lib.IntN.{ℤ, pos, _+ℤ_, _*ℤ_}
 use Rattle.numbers.proofs.RingSolver.{ring, from, #_, _⊕_, _⊖_, _⊗_, _≐_}
 use Rattle.numbers.proofs.Sum.{sum, sum-cong, sum-+, sum-scaleˡ, δ, δ-other}
 use Rattle.numbers.proofs.Congruence.{Cong, cong-of-eq, cong-sym, cong-trans, cong-+, cong-*, cong-sub, cong-sum}

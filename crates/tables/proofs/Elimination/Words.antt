@@ -3,15 +3,15 @@
 use mathlib.Core.Path.{_≡_, refl, sym, ap, _∙_}
 use mathlib.Core.Logic.{_≢_}
 use mathlib.Core.List.{List}
-use Prim.Native.Nat.{ℕ, suc, _+_, _/_, _%_, _^_, _<_, _≤_}
+use Prim.Native.Nat.{ℕ, _+_, _/_, _%_, _^_, _<_}
 use native.Mathlib.Omega.{arith}
 use lib.Bits.{bitXor}
-use lib.IntN.{ℤ, pos, _+ℤ_, _*ℤ_}
-use lib.ListN.{length, getD, set}
-use Rattle.numbers.proofs.Sum.{δ, δ-other}
+use lib.IntN.{pos, _+ℤ_}
+use lib.ListN.{getD, set}
+use Rattle.numbers.proofs.Sum.{δ-other}
 use Rattle.numbers.proofs.Congruence.{Cong, cong-of-eq, cong-trans, cong-+, cong-*}
 use Rattle.tables.specs.Tables.{Matrix}
-use Rattle.tables.specs.Elimination.{Going, Advances}
+use Rattle.tables.specs.Elimination.{Going}
 use Rattle.tables.specs.Parity.{bits, Sized, Pivot}
 use Rattle.tables.proofs.Elimination.Steps.{cong-refl, going-add}
 use Rattle.tables.proofs.Elimination.Stages.{Clearing, clear-none, clear-pivot, clear-pass, clear-add}

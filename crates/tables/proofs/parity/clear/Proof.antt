@@ -1,11 +1,8 @@
-use mathlib.Core.Logic.{_≢_, ⊎-elim}
-use mathlib.Core.Path.{_≡_, sym, ap, _∙_, subst₂}
+use mathlib.Core.Logic.{⊎-elim}
+use mathlib.Core.Path.{_≡_, sym, _∙_, subst₂}
 use mathlib.Core.List.{List}
-use Prim.Native.Nat.{ℕ, _+_, _-_, _<_, _≤_}
+use Prim.Native.Nat.{ℕ, _+_, _-_, _≤_}
 use native.Mathlib.Omega.{arith}
-use lib.IntN.{pos}
-use Rattle.numbers.proofs.Congruence.{cong-of-eq}
-use Rattle.tables.specs.Parity.{Sized}
 use Rattle.tables.proofs.Elimination.Stages.{clear-all}
 use Rattle.tables.proofs.Elimination.Words.{Cleared, words-none, words-pivot, words-pass, words-join}
 use Rattle.tables.proofs.parity.clear.Statement.{statement}

@@ -1,12 +1,9 @@
-use mathlib.Core.Path.{_≡_, sym, ap, _∙_, subst}
+use mathlib.Core.Path.{_≡_}
 use mathlib.Core.Logic.{⊎-elim}
 use Prim.Native.Nat.{ℕ, _+_, _-_, _*_, _<_, _≤_}
 use native.Mathlib.Omega.{arith}
 use borrow.Author.Needs.{needs}
 use lib.Arith.{digits-lt}
-use lib.Bits.{bitXor}
-use lib.IntN.{ℤ, pos}
-use Rattle.numbers.specs.Numbers.{Cong}
 use Rattle.numbers.proofs.Machine.{rd-ok}
 use Rattle.tables.specs.Tables.{entries}
 use Rattle.tables.specs.Parity.{Loaded}

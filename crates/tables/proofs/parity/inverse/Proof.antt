@@ -1,4 +1,4 @@
-use mathlib.Core.Path.{_≡_, refl}
+use mathlib.Core.Path.{refl}
 use borrow.Author.Needs.{needs}
 use Rattle.tables.proofs.Elimination.Bits.{says-yes, says-no}
 use Rattle.tables.proofs.Elimination.Loading.{read-back}

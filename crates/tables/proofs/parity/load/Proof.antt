@@ -1,8 +1,7 @@
-use mathlib.Core.Path.{_≡_, sym}
-use Prim.Native.Nat.{ℕ, _+_, _-_, _*_, _<_, _≤_}
+use mathlib.Core.Path.{_≡_}
+use Prim.Native.Nat.{_-_, _≤_}
 use native.Mathlib.Omega.{arith}
 use lib.IntN.{pos}
-use lib.ListN.{set}
 use Rattle.numbers.proofs.Sum.{δ}
 use Rattle.numbers.proofs.Congruence.{cong-of-eq}
 use Rattle.tables.specs.Tables.{entries}

@@ -1,8 +1,8 @@
 -- Where the two ways meet, `ready` says that word r has bit r and that the work done so far is kept.
-use mathlib.Core.Path.{_≡_, sym, _∙_, subst₂}
+use mathlib.Core.Path.{sym, _∙_, subst₂}
 use mathlib.Core.List.{List}
 use mathlib.Core.Logic.{⊎-elim}
-use Prim.Native.Nat.{ℕ, _<_, _≤_}
+use Prim.Native.Nat.{ℕ}
 use native.Mathlib.Omega.{arith}
 use borrow.Author.Needs.{needs}
 use Rattle.tables.proofs.Elimination.Bits.{says-yes, says-no}
