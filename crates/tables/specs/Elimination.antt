@@ -5,7 +5,7 @@
 --   Advances n m r C P C′ P′      whatever A is, from r rows the work went on to r + 1
 --   None m k r P                  row r of P is 0 from column r up to column k
 -- Assumes nothing.
-use Prim.Native.Nat.{ℕ, suc, _≤_, _<_}
+use Prim.Native.Nat.{ℕ, _+_, _≤_, _<_}
 use lib.IntN.{pos}
 use Rattle.numbers.specs.Numbers.{Cong, δ}
 use Rattle.tables.specs.Tables.{Matrix, _·⟨_⟩_, CongM}
@@ -18,10 +18,10 @@ pub record Kept (n m : ℕ) (A C P : Matrix) : Type 0 where
 
 pub record Going (n m r : ℕ) (A C P : Matrix) : Type 0 where
   pub kept : Kept n m A C P
-  pub rows : (i j : ℕ) → i < r → j < n → Cong (pos m) (P i j) (δ i j)
+  pub rows : (i : ℕ) → i < r → (j : ℕ) → j < n → Cong (pos m) (P i j) (δ i j)
 
 pub record Advances (n m r : ℕ) (C P C′ P′ : Matrix) : Type 0 where
-  pub on : (A : Matrix) → Going n m r A C P → Going n m (suc r) A C′ P′
+  pub on : (A : Matrix) → Going n m r A C P → Going n m (r + 1) A C′ P′
 
 abbrev pub None : ℕ → ℕ → ℕ → Matrix → Type 0
 None m k r P = (j : ℕ) → r ≤ j → j < k → Cong (pos m) (P r j) (pos 0)

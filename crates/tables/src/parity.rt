@@ -1,14 +1,13 @@
 // The inverse modulo 2: an elimination on words, each a column of the table.
 ghost use mathlib.Core.Path.{_≡_};
 ghost use Prim.Native.Nat.{_*_, _/_, _%_, _^_, _<_, _≤_};
-ghost use lib.Bits.{bitXor};
 ghost use lib.IntN.{pos};
-ghost use lib.ListN.{length, getD, set};
+ghost use lib.ListN.{length};
 ghost use Rattle.numbers.specs.Numbers.{Cong, δ};
 ghost use Rattle.numbers.specs.Says.{Says};
 ghost use Rattle.tables.specs.Tables.{_·⟨_⟩_, CongM, entries, IsOrder, HasInverseMod};
 ghost use Rattle.tables.specs.Elimination.{Going, Advances, None};
-ghost use Rattle.tables.specs.Parity.{InverseMod2, bits, Sized, Pivot, Loaded, Unpacked};
+ghost use Rattle.tables.specs.Parity.{InverseMod2, bits, xored, Sized, Pivot, Loaded, Unpacked};
 
 // an inverse of a modulo 2, in zeros and ones; false, with out as it was, where there is none
 pub fn inverse(n: usize, a: &[i64], out: &mut [i64]) -> bool
@@ -94,7 +93,7 @@ fn clear(n: usize, r: usize, c: &mut [u32; 32], p: &mut [u32; 32])
 // word s joins word d
 fn join(l: &mut [u32; 32], d: usize, s: usize)
     requires { ⌜ (d < 32) × (s < 32) ⌝ }
-    ensures { λ _. ⌜ now (l .exit) ≡ set (now (l .entry)) d (bitXor (getD (now (l .entry)) d 0) (getD (now (l .entry)) s 0)) ⌝ }
+    ensures { λ _. ⌜ now (l .exit) ≡ xored (now (l .entry)) d s ⌝ }
 {
     l[d] = l[d] ^ l[s];
 }

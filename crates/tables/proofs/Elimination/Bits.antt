@@ -11,7 +11,7 @@ use native.Mathlib.Omega.{arith}
 use lib.Bits.{bitXor, xor-shr, xor-mod}
 use lib.Dec.{eqb}
 use lib.IntN.{ℤ, pos, negsuc, negℤ, _+ℤ_, _*ℤ_}
-use lib.ListN.{length, getD, set}
+use lib.ListN.{length, getD}
 use lib.Pow.{pow-add, pow-pos, pow-lt, shl-shr, shl-exact}
 use lib.Seq.{getD-set-same, getD-set-other}
 use lib.Signed.{mag, quotZ, remZ}
@@ -21,14 +21,14 @@ use Rattle.numbers.specs.Says.{Says}
 use Rattle.numbers.proofs.RingSolver.{ring, from, #_, ⊝_, _⊕_, _⊖_, _⊗_, _≐_}
 use Rattle.numbers.proofs.Sum.{δ, δ-same, δ-other}
 use Rattle.numbers.proofs.Congruence.{Cong, cong-of-eq, cong-sym, cong-trans}
-use Rattle.tables.specs.Parity.{bits}
+use Rattle.tables.specs.Parity.{bits, xored}
 use Rattle.tables.proofs.Elimination.Steps.{Stepped}
 
-pub says-yes : {P Q : Type 0} → P → Says P Q true
-says-yes p = record { yes = λ z. p; no = λ z. absurd (true≢false z) }
+pub say-yes : {P Q : Type 0} → P → Says P Q true
+say-yes p = record { yes = λ z. p; no = λ z. absurd (true≢false z) }
 
-pub says-no : {P Q : Type 0} → Q → Says P Q false
-says-no q = record { yes = λ z. absurd (false≢true z); no = λ z. q }
+pub say-no : {P Q : Type 0} → Q → Says P Q false
+say-no q = record { yes = λ z. absurd (false≢true z); no = λ z. q }
 
 -- ---- one bit
 
@@ -90,8 +90,8 @@ mod2-cong k =
     record { quot = negℤ (pos (k / 2)); eqn = from (sym e) (ring 3 (λ k q r. r ⊖ k ⊖ # 2 ⊗ (⊝ q) ≐ (# 2 ⊗ q ⊕ r) ⊖ k) tt (pos k) (pos (k / 2)) (pos (k % 2))) }
 
 odd-pos : (z : ℤ) (m : ℕ) → m < 2 → Cong (pos 2) (pos m) z → Says (Cong (pos 2) z (pos 1)) (Cong (pos 2) z (pos 0)) (not (eqb m 0))
-odd-pos z zero h e = says-no (cong-sym e)
-odd-pos z (suc zero) h e = says-yes (cong-sym e)
+odd-pos z zero h e = say-no (cong-sym e)
+odd-pos z (suc zero) h e = say-yes (cong-sym e)
 odd-pos z (suc (suc m)) h e = absurd (omega arith)
 
 odd-neg : (m : ℕ) → m < 2 → not (eqb (ofZ w64 (negℤ (pos m))) 0) ≡ not (eqb m 0)
@@ -118,7 +118,7 @@ half-fits (negsuc n) h = record { sfits = omega (arith, h .sfits, mag-neg (suc n
 
 -- word s joins word d: column s is added to column d
 pub xor-step : {n : ℕ} (l : List ℕ) (d s : ℕ) → d < length l
-    → Stepped (pos 2) n d s (pos 1) (pos 1) (bits l) (bits (set l d (bitXor (getD l d 0) (getD l s 0))))
+    → Stepped (pos 2) n d s (pos 1) (pos 1) (bits l) (bits (xored l d s))
 xor-step l d s h = record {
   rest = λ i j hi hj e. cong-of-eq (pos 2) (ap (λ (w : ℕ). pos (w / 2 ^ i % 2)) (getD-set-other l d j r 0 e));
   here = λ i hi.

@@ -3,8 +3,8 @@
 -- Assumes nothing.
 use mathlib.Core.Path.{_≡_, sym, ap, subst}
 use mathlib.Core.Logic.{_≢_}
-use Prim.Native.Nat.{ℕ, suc, _+_, _≤_, _<_}
-use native.Mathlib.Decide.{ℕ-discrete, decLt}
+use Prim.Native.Nat.{ℕ, _+_, _≤_, _<_}
+use native.Mathlib.Decide.{decLt}
 use native.Mathlib.Omega.{arith}
 use borrow.Author.Count.{below-more}
 use lib.IntN.{ℤ, pos, _+ℤ_, _*ℤ_}
@@ -25,17 +25,11 @@ going-first {n} {m} {A} {C} {P} c p = record {
     product = congM-trans n x p (congM-trans n x (congM-sym n x (congM-eq n x (·-idʳ n A))) (congM-· n x (congM-refl n x A) (congM-sym n x c)));
     kills = λ t q W z. congM-trans n (pos t) (congM-· n (pos t) (congM-refl n (pos t) W) (λ i j h k. cong-sym (cong-down q (p i j h k)))) z;
   };
-  rows = λ i j h k. absurd (none i h);
+  rows = λ i h. absurd (omega arith);
 }
   where
     x : ℤ
     x = pos m
-
-    none : (i : ℕ) → i < 0 → ⊥
-    none i h = omega arith
-
-pub none-more : (m k r : ℕ) (P : Matrix) → None m k r P → Cong (pos m) (P r k) (pos 0) → None m (k + 1) r P
-none-more m k r P f e j l h = below-more (λ (j : ℕ). r ≤ j → Cong (pos m) (P r j) (pos 0)) k (λ j h l. f j l h) (λ l. e) j h l
 
 -- ---- a row is cleared, by column r, whose entry in it is 1
 
@@ -77,18 +71,19 @@ clear-add {n} {m} {k} {r} {f} {A} {C} {P} {C′} {P′} hr hk e z c p q =
         (cong-trans (cong-+ (cong-refl (pos 1 *ℤ P r k)) (cong-* (cong-refl f) (q .one)))
         (cong-trans (cong-of-eq x (ring 2 (λ v f. # 1 ⊗ v ⊕ f ⊗ # 1 ≐ v ⊕ f) tt (P r k) f)) z))
 
-pub clear-all : {n m k r : ℕ} {A C P : Matrix} → k ≡ n → Clearing n m k r A C P → Going n m (suc r) A C P
-clear-all {n} {m} {k} {r} {A} {C} {P} e q =
-    record { kept = q .going .kept; rows = λ i j hi hj. go i j hi hj (ℕ-discrete i r) }
-  where
-    go : (i j : ℕ) → i < suc r → j < n → Dec (i ≡ r) → Cong (pos m) (P i j) (δ i j)
-    go i j hi hj (yes s) = subst (λ (i : ℕ). Cong (pos m) (P i j) (δ i j)) (sym s) (q .row j (omega arith))
-    go i j hi hj (no s) = q .going .rows i j (omega arith) hj
+pub clear-all : {n m k r : ℕ} {A C P : Matrix} → k ≡ n → Clearing n m k r A C P → Going n m (r + 1) A C P
+clear-all {n} {m} {k} {r} {P = P} e q = record {
+  kept = q .going .kept;
+  rows = below-more (λ (i : ℕ). (j : ℕ) → j < n → Cong (pos m) (P i j) (δ i j)) r (q .going .rows) (λ j h. q .row j (omega arith));
+}
 
 -- ---- the ends
 
 pub found : {n m r : ℕ} {A C P : Matrix} → r ≡ n → Going n m r A C P → CongM n (pos m) (A ·⟨ n ⟩ C) δ
-found {n} {m} e g i j h k = cong-trans (cong-sym (g .kept .product i j h k)) (g .rows i j (rw e h) k)
+found {n} {m} e g i j h k = cong-trans (cong-sym (g .kept .product i j h k)) (g .rows i (rw e h) j k)
+
+pub none-more : (m k r : ℕ) (P : Matrix) → None m k r P → Cong (pos m) (P r k) (pos 0) → None m (k + 1) r P
+none-more m k r P f e j l h = below-more (λ (j : ℕ). r ≤ j → Cong (pos m) (P r j) (pos 0)) k (λ j h l. f j l h) (λ l. e) j h l
 
 -- modulo any divisor t of m, from 2 on
 pub stuck : {n m r : ℕ} {A C P : Matrix} (t : ℕ) → Cong (pos t) (pos m) (pos 0) → 2 ≤ t → r < n → Going n m r A C P → None t n r P → ¬ HasInverseMod t n A
@@ -106,7 +101,7 @@ stuck {n} {m} {r} {A} {C} {P} t q two h g none = no-inverse t n W A r h (g .kept
         cong-trans (cong-sum x n (λ k hk. go k hk (decLt k r))) (cong-of-eq x (·-idʳ n P r j h hj))
       where
         go : (k : ℕ) → k < n → Dec (k < r) → Cong x (P r k *ℤ P k j) (P r k *ℤ δ k j)
-        go k hk (yes l) = cong-* (cong-refl (P r k)) (cong-down q (g .rows k j l hj))
+        go k hk (yes l) = cong-* (cong-refl (P r k)) (cong-down q (g .rows k l j hj))
         go k hk (no l) =
             let z : Cong x (P r k) (pos 0) = none k (omega arith) hk in
             cong-trans (cong-* z (cong-refl (P k j)))

@@ -95,7 +95,7 @@ module _ {x : ℤ} {n d s : ℕ} {a f : ℤ} where
           (cong-trans (cong-* (cong-refl b) (cong-sub (cong-trans (cong-sym (h .here i hi)) (z i d hi (rw (sym q) hj))) part))
           (cong-of-eq x (ring 1 (λ b. b ⊗ (# 0 ⊖ # 0) ≐ # 0) tt b))))))
 
-pub kept-step : {n m d s : ℕ} {a f : ℤ} {A C P C′ P′ : Matrix} → Undone (pos m) n d s a f
+kept-step : {n m d s : ℕ} {a f : ℤ} {A C P C′ P′ : Matrix} → Undone (pos m) n d s a f
     → Stepped (pos m) n d s a f C C′ → Stepped (pos m) n d s a f P P′ → Kept n m A C P → Kept n m A C′ P′
 kept-step {A = A} u c p k = record {
   product = stepped-cong (u .inside) (k .product) p (stepped-· A c);
@@ -103,10 +103,10 @@ kept-step {A = A} u c p k = record {
 }
 
 -- an operation with column s from r on keeps the r unit rows, where it keeps those of I
-going-step : {n m r d s : ℕ} {a f : ℤ} {A C P C′ P′ : Matrix} → r ≤ s → ((i : ℕ) → i < r → a *ℤ δ i d ≡ δ i d) → Undone (pos m) n d s a f
+pub going-step : {n m r d s : ℕ} {a f : ℤ} {A C P C′ P′ : Matrix} → r ≤ s → ((i : ℕ) → i < r → a *ℤ δ i d ≡ δ i d) → Undone (pos m) n d s a f
     → Stepped (pos m) n d s a f C C′ → Stepped (pos m) n d s a f P P′ → Going n m r A C P → Going n m r A C′ P′
 going-step {n} {m} {r} {d} {s} {a} {f} {A} {C} {P} {C′} {P′} l scale u c p g =
-    record { kept = kept-step u c p (g .kept); rows = λ i j hi hj. go i j hi hj (ℕ-discrete j d) }
+    record { kept = kept-step u c p (g .kept); rows = λ i hi j hj. go i j hi hj (ℕ-discrete j d) }
   where
     x : ℤ
     x = pos m
@@ -118,11 +118,11 @@ going-step {n} {m} {r} {d} {s} {a} {f} {A} {C} {P} {C′} {P′} l scale u c p g
     apart h e = omega arith
 
     go : (i j : ℕ) → i < r → j < n → Dec (j ≡ d) → Cong x (P′ i j) (δ i j)
-    go i j hi hj (no q) = cong-trans (p .rest i j (inside hi) hj q) (g .rows i j hi hj)
+    go i j hi hj (no q) = cong-trans (p .rest i j (inside hi) hj q) (g .rows i hi j hj)
     go i j hi hj (yes q) =
         subst (λ (k : ℕ). Cong x (P′ i k) (δ i k)) (sym q)
         (cong-trans (p .here i (inside hi))
-        (cong-trans (cong-+ (cong-* (cong-refl a) (g .rows i d hi (rw (sym q) hj))) (cong-* (cong-refl f) (g .rows i s hi (u .inside))))
+        (cong-trans (cong-+ (cong-* (cong-refl a) (g .rows i hi d (rw (sym q) hj))) (cong-* (cong-refl f) (g .rows i hi s (u .inside))))
         (cong-of-eq x (ap₂ (λ y z. y +ℤ f *ℤ z) (scale i hi) (δ-other (apart hi)) ∙ ring 2 (λ d f. d ⊕ f ⊗ # 0 ≐ d) tt (δ i d) f))))
 
 -- in particular where column s is only added

@@ -7,20 +7,16 @@ use Prim.Native.Nat.{ℕ, _+_, _/_, _%_, _^_, _<_}
 use native.Mathlib.Omega.{arith}
 use lib.Bits.{bitXor}
 use lib.IntN.{pos, _+ℤ_}
-use lib.ListN.{getD, set}
+use lib.ListN.{getD}
 use Rattle.numbers.proofs.Sum.{δ-other}
 use Rattle.numbers.proofs.Congruence.{Cong, cong-of-eq, cong-trans, cong-+, cong-*}
 use Rattle.tables.specs.Tables.{Matrix}
 use Rattle.tables.specs.Elimination.{Going}
-use Rattle.tables.specs.Parity.{bits, Sized, Pivot}
+use Rattle.tables.specs.Parity.{bits, xored, Sized, Pivot}
 use Rattle.tables.proofs.Elimination.Steps.{cong-refl, going-add}
 use Rattle.tables.proofs.Elimination.Stages.{Clearing, clear-none, clear-pivot, clear-pass, clear-add}
 use Rattle.tables.proofs.Elimination.Bits.{bit-one, xor-step}
 use Rattle.tables.proofs.Elimination.Loading.{sized-set}
-
--- word s joined to word d
-abbrev pub xored : List ℕ → ℕ → ℕ → List ℕ
-xored l d s = set l d (bitXor (getD l d 0) (getD l s 0))
 
 sized-xor : (d s : ℕ) {n : ℕ} {c p : List ℕ} → Sized n c p → Sized n (xored c d s) (xored p d s)
 sized-xor d s {c = c} {p = p} z = sized-set d (bitXor (getD c d 0) (getD c s 0)) (bitXor (getD p d 0) (getD p s 0)) z

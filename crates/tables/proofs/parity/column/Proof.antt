@@ -1,6 +1,6 @@
 use mathlib.Core.Path.{_≡_}
 use mathlib.Core.Logic.{⊎-elim}
-use Prim.Native.Nat.{ℕ, _+_, _-_, _*_, _<_, _≤_}
+use Prim.Native.Nat.{_-_, _<_, _≤_}
 use native.Mathlib.Omega.{arith}
 use borrow.Author.Needs.{needs}
 use lib.Arith.{digits-lt}
@@ -22,21 +22,17 @@ abbrev μ-loop : tie.MeasureT-loop
 loop-holds : tie.Need-loop-holds Inv-loop μ-loop
 loop-holds c = (omega arith, load-none)
 
--- where the entry stands
-place : {n i j : ℕ} → n ≤ 32 → i < n → j < n → (i * n + j < n * n) × (n * n ≤ 1024)
-place h hi hj = (digits-lt hi hj, square-small h)
-
 mul-x : tie.Need-mul-x Inv-loop μ-loop
-mul-x c = let h : c .before .loop .i < c .before .before .args .n = omega arith in omega (arith, place (c .before .before .pre .0) h (c .before .before .pre .1 .0))
+mul-x c = let h : c .before .loop .i < c .before .before .args .n = omega arith in omega (arith, digits-lt h (c .before .before .pre .1 .0), square-small (c .before .before .pre .0))
 
 add-x : tie.Need-add-x Inv-loop μ-loop
-add-x c = let h : c .before .loop .i < c .before .before .args .n = omega arith in omega (arith, place (c .before .before .pre .0) h (c .before .before .pre .1 .0))
+add-x c = let h : c .before .loop .i < c .before .before .args .n = omega arith in omega (arith, digits-lt h (c .before .before .pre .1 .0), square-small (c .before .before .pre .0))
 
 mul-x-2 : tie.Need-mul-x-2 Inv-loop μ-loop
-mul-x-2 c = let h : c .before .loop .i < c .before .before .args .n = omega arith in omega (arith, place (c .before .before .pre .0) h (c .before .before .pre .1 .0))
+mul-x-2 c = let h : c .before .loop .i < c .before .before .args .n = omega arith in omega (arith, digits-lt h (c .before .before .pre .1 .0), square-small (c .before .before .pre .0))
 
 shared-slice-copy-out-x : tie.Need-shared-slice-copy-out-x Inv-loop μ-loop
-shared-slice-copy-out-x c = let h : c .before .loop .i < c .before .before .args .n = omega arith in omega (arith, place (c .before .before .pre .0) h (c .before .before .pre .1 .0))
+shared-slice-copy-out-x c = let h : c .before .loop .i < c .before .before .args .n = omega arith in omega (arith, digits-lt h (c .before .before .pre .1 .0), square-small (c .before .before .pre .0))
 
 odd-requires : tie.Need-odd-requires Inv-loop μ-loop
 odd-requires c κs = search needs

@@ -9,23 +9,23 @@ use Rattle.tables.proofs.parity.entry.Statement.{statement}
 use Rattle.tables.proofs.parity.entry.Tie as tie
 
 -- the row and the column of a place
-place : {n q : ℕ} → IsOrder n → q < n * n → (q / n < n) × (q % n < n)
-place {n} {q} o h = (div-lt-iff-lt-mul {k = n} (o .from) .1 h, mod-lt q (o .from))
+row-of : {n q : ℕ} → IsOrder n → q < n * n → (q / n < n) × (q % n < n)
+row-of {n} {q} o h = (div-lt-iff-lt-mul {k = n} (o .from) .1 h, mod-lt q (o .from))
 
 rem-bit : tie.Need-rem-bit
 rem-bit c = omega (arith, c .pre .0 .from)
 
 mul-bit : tie.Need-mul-bit
-mul-bit c = omega (arith, place (c .pre .0) (c .pre .1))
+mul-bit c = omega (arith, row-of (c .pre .0) (c .pre .1))
 
 element-copy-out-bit : tie.Need-element-copy-out-bit
-element-copy-out-bit c = omega (arith, place (c .pre .0) (c .pre .1))
+element-copy-out-bit c = omega (arith, row-of (c .pre .0) (c .pre .1))
 
 div-bit : tie.Need-div-bit
 div-bit c = omega (arith, c .before .pre .0 .from)
 
 bit-requires : tie.Need-bit-requires
-bit-requires c κs = omega (arith, place (c .before .pre .0) (c .before .pre .1))
+bit-requires c κs = omega (arith, row-of (c .before .pre .0) (c .before .pre .1))
 
 returns : tie.Need-returns
 returns c = ap pos (sym (bit-one _ _ (λ e. c .if1 .taken (c .before .bit .ensures ∙ e))))

@@ -1,6 +1,6 @@
 use mathlib.Core.Path.{refl}
 use borrow.Author.Needs.{needs}
-use Rattle.tables.proofs.Elimination.Bits.{says-yes, says-no}
+use Rattle.tables.proofs.Elimination.Bits.{say-yes, say-no}
 use Rattle.tables.proofs.Elimination.Loading.{read-back}
 use Rattle.tables.proofs.parity.inverse.Statement.{statement}
 use Rattle.tables.proofs.parity.inverse.Tie as tie
@@ -17,10 +17,10 @@ same-length c = search needs
 returns : tie.Need-returns
 returns c =
     let b = c .before .before .before .before in
-    says-yes (read-back (c .before .unpack .ensures) (b .before .invert .ensures .yes (b .if1 .taken)))
+    say-yes (read-back (c .before .unpack .ensures) (b .before .invert .ensures .yes (b .if1 .taken)))
 
 returns-2 : tie.Need-returns-2
-returns-2 c = says-no (c .before .invert .ensures .no (c .if1 .left), refl)
+returns-2 c = say-no (c .before .invert .ensures .no (c .if1 .left), refl)
 
 pub inverse-spec : {M : Type 1} → statement M
 inverse-spec = tie.close (tie.spec invert-requires unpack-requires same-length returns returns-2)

@@ -1,6 +1,5 @@
 use mathlib.Core.Path.{refl}
 use Prim.Native.Nat.{_-_, _≤_}
-use native.Mathlib.Numerals.{add-one}
 use native.Mathlib.Omega.{arith}
 use borrow.Author.Tests.{not-true, not-false}
 use lib.IntN.{pos}
@@ -8,7 +7,7 @@ use Rattle.tables.specs.Tables.{entries}
 use Rattle.tables.specs.Elimination.{Going}
 use Rattle.tables.specs.Parity.{bits, Sized}
 use Rattle.tables.proofs.Elimination.Stages.{found, stuck}
-use Rattle.tables.proofs.Elimination.Bits.{says-yes, says-no}
+use Rattle.tables.proofs.Elimination.Bits.{say-yes, say-no}
 use Rattle.tables.proofs.parity.invert.Statement.{statement}
 use Rattle.tables.proofs.parity.invert.Tie as tie
 
@@ -30,7 +29,7 @@ settle-requires c κs = (omega arith, c .before .before .before .loop .inv .1 .0
 
 returns : tie.Need-returns Inv-loop μ-loop
 returns c =
-    says-no (stuck 2 (record { quot = pos 1; eqn = refl }) (omega arith) (omega arith) (c .before .before .before .before .before .loop .inv .1 .1)
+    say-no (stuck 2 (record { quot = pos 1; eqn = refl }) (omega arith) (omega arith) (c .before .before .before .before .before .loop .inv .1 .1)
     (c .before .settle .ensures .1 .no (not-true _ (c .if1 .taken))))
 
 add-r : tie.Need-add-r Inv-loop μ-loop
@@ -43,11 +42,11 @@ loop-again : tie.Need-loop-again Inv-loop μ-loop
 loop-again c =
     let s = c .before .settle .ensures in (
       omega arith,
-      (s .0, rw add-one (s .1 .yes (not-false _ (c .if1 .left)) .on _ (c .before .before .before .before .before .loop .inv .1 .1))),
+      (s .0, s .1 .yes (not-false _ (c .if1 .left)) .on _ (c .before .before .before .before .before .loop .inv .1 .1)),
     )
 
 returns-2 : tie.Need-returns-2 Inv-loop μ-loop
-returns-2 c = says-yes (found (omega arith) (c .before .loop .inv .1 .1))
+returns-2 c = say-yes (found (omega arith) (c .before .loop .inv .1 .1))
 
 pub invert-spec : {M : Type 1} → statement M
 invert-spec =

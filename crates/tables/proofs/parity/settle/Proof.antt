@@ -5,7 +5,7 @@ use mathlib.Core.Logic.{⊎-elim}
 use Prim.Native.Nat.{ℕ}
 use native.Mathlib.Omega.{arith}
 use borrow.Author.Needs.{needs}
-use Rattle.tables.proofs.Elimination.Bits.{says-yes, says-no}
+use Rattle.tables.proofs.Elimination.Bits.{say-yes, say-no}
 use Rattle.tables.proofs.Elimination.Words.{Ready, ready-here, ready-join}
 use Rattle.tables.proofs.parity.settle.Statement.{statement}
 use Rattle.tables.proofs.parity.settle.Tie as tie
@@ -14,7 +14,7 @@ pivot-requires : tie.Need-pivot-requires
 pivot-requires c κs = search needs
 
 returns : tie.Need-returns
-returns c = (c .before .before .before .pre .1, says-no (λ j l h. c .before .pivot .ensures .none j l (omega arith)))
+returns c = (c .before .before .before .pre .1, say-no (λ j l h. c .before .pivot .ensures .none j l (omega arith)))
 
 join-requires : tie.Need-join-requires
 join-requires c κs = search needs
@@ -39,7 +39,7 @@ clear-requires c κs = ((omega arith, ready (c .before .before) .sized), ready (
 
 returns-2 : tie.Need-returns-2
 returns-2 c =
-    let q = c .clear .ensures in (q .0, says-yes (record { on = λ A g. q .1 .on A (ready (c .before .before .before) .goes A g) }))
+    let q = c .clear .ensures in (q .0, say-yes (record { on = λ A g. q .1 .on A (ready (c .before .before .before) .goes A g) }))
 
 pub settle-spec : {M : Type 1} → statement M
 settle-spec = tie.close (tie.spec pivot-requires returns join-requires join-requires-2 clear-requires returns-2)
