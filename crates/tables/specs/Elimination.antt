@@ -4,7 +4,6 @@
 --   Going n m r A C P             the same, and the first r rows of P are those of I
 --   Advances n m r C P C′ P′      whatever A is, from r rows the work went on to r + 1
 --   None m k r P                  row r of P is 0 from column r up to column k
--- Assumes nothing.
 use Prim.Native.Nat.{ℕ, _+_, _≤_, _<_}
 use lib.IntN.{pos}
 use Rattle.numbers.specs.Numbers.{Cong, δ}

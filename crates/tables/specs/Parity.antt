@@ -6,7 +6,6 @@
 --   Pivot n r P s       s is the first column from r on that is odd in row r, or n
 --   Loaded m A j w      the first m bits of w are the parities of column j, and it has no others
 --   Unpacked n c t      the list t holds the table of c
--- Assumes nothing.
 use mathlib.Core.Path.{_≡_}
 use mathlib.Core.Logic.{_⊎_}
 use mathlib.Core.List.{List}

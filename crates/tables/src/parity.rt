@@ -154,7 +154,9 @@ fn entry(n: usize, c: &[u32; 32], q: usize) -> i64
     requires { ⌜ (IsOrder n) × (q < n * n) ⌝ }
     ensures { λ r. ⌜ r ≡ bits (now (c .entry)) (q / n) (q % n) ⌝ }
 {
-    if bit(c[q % n], q / n) != 0 { 1 } else { 0 }
+    let i = q / n;
+    let j = q % n;
+    if bit(c[j], i) != 0 { 1 } else { 0 }
 }
 
 // bit i of a word

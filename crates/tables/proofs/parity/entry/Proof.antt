@@ -2,6 +2,7 @@ use mathlib.Core.Path.{sym, ap, _∙_}
 use Prim.Native.Nat.{ℕ, _*_, _/_, _%_, _<_}
 use native.Mathlib.Nat.{div-lt-iff-lt-mul, mod-lt}
 use native.Mathlib.Omega.{arith}
+use borrow.Author.Needs.{needs}
 use lib.IntN.{pos}
 use Rattle.tables.specs.Tables.{IsOrder}
 use Rattle.tables.proofs.Elimination.Bits.{bit-one}
@@ -12,17 +13,17 @@ use Rattle.tables.proofs.parity.entry.Tie as tie
 row-of : {n q : ℕ} → IsOrder n → q < n * n → (q / n < n) × (q % n < n)
 row-of {n} {q} o h = (div-lt-iff-lt-mul {k = n} (o .from) .1 h, mod-lt q (o .from))
 
-rem-bit : tie.Need-rem-bit
-rem-bit c = omega (arith, c .pre .0 .from)
+div-i : tie.Need-div-i
+div-i c = search needs
+
+rem-j : tie.Need-rem-j
+rem-j c = search needs
 
 mul-bit : tie.Need-mul-bit
 mul-bit c = omega (arith, row-of (c .pre .0) (c .pre .1))
 
 element-copy-out-bit : tie.Need-element-copy-out-bit
 element-copy-out-bit c = omega (arith, row-of (c .pre .0) (c .pre .1))
-
-div-bit : tie.Need-div-bit
-div-bit c = omega (arith, c .before .pre .0 .from)
 
 bit-requires : tie.Need-bit-requires
 bit-requires c κs = omega (arith, row-of (c .before .pre .0) (c .before .pre .1))
@@ -34,6 +35,4 @@ returns-2 : tie.Need-returns-2
 returns-2 c = ap pos (sym (c .if1 .left) ∙ c .before .bit .ensures)
 
 pub entry-spec : {M : Type 1} → statement M
-entry-spec =
-    tie.close
-    (tie.spec rem-bit mul-bit element-copy-out-bit div-bit bit-requires returns returns-2)
+entry-spec = tie.close (tie.spec div-i rem-j mul-bit element-copy-out-bit bit-requires returns returns-2)
