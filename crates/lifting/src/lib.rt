@@ -61,7 +61,7 @@ fn halves(n: usize, a: &[i64], buf: &mut [i64]) -> bool
     ensures { λ odd. ⌜ Parity n (entries n (now (a .entry))) (now (buf .entry)) odd (now (buf .exit)) ⌝ }
 {
     let m = n * n;
-    parity::inverse(a, n, &mut buf[..m])
+    tables::parity::inverse(n, a, &mut buf[..m])
 }
 
 // B_0 in block 0 and R_0 in block 1, with block 2 for work; false where a has no inverse modulo 2

@@ -1,0 +1,5 @@
+pub mod Steps
+pub mod Stages
+pub mod Bits
+pub mod Loading
+pub mod Words

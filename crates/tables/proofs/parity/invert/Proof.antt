@@ -1,0 +1,64 @@
+use mathlib.Core.Path.{refl}
+use Prim.Native.Nat.{_-_, _≤_}
+use native.Mathlib.Omega.{arith}
+use borrow.Author.Tests.{not-true, not-false}
+use lib.IntN.{pos}
+use Rattle.tables.specs.Tables.{entries}
+use Rattle.tables.specs.Elimination.{Going}
+use Rattle.tables.specs.Parity.{bits, Sized}
+use Rattle.tables.proofs.Elimination.Stages.{found, stuck}
+use Rattle.numbers.proofs.Says.{say-yes, say-no}
+use Rattle.tables.proofs.parity.invert.Statement.{statement}
+use Rattle.tables.proofs.parity.invert.Tie as tie
+
+abbrev Inv-loop : tie.InvT-loop
+Inv-loop n a c₀ p₀ r₀ c p r = (r ≤ n) × (Sized n c p × Going n 2 r (entries n a) (bits c) (bits p))
+
+abbrev μ-loop : tie.MeasureT-loop
+μ-loop n a c₀ p₀ r₀ c p r = n - r
+
+load-requires : tie.Need-load-requires Inv-loop μ-loop
+load-requires c κs =
+    let o = c .before .before .pre in (o .1 .0, record { order = o .0; long-c = omega arith; long-p = o .0 })
+
+loop-holds : tie.Need-loop-holds Inv-loop μ-loop
+loop-holds c = (omega arith, c .load .ensures)
+
+settle-requires : tie.Need-settle-requires Inv-loop μ-loop
+settle-requires c κs = (omega arith, c .before .before .before .loop .inv .1 .0)
+
+returns : tie.Need-returns Inv-loop μ-loop
+returns c =
+    say-no (stuck 2 (record { quot = pos 1; eqn = refl }) (omega arith) (omega arith) (c .before .before .before .before .before .loop .inv .1 .1)
+    (c .before .settle .ensures .1 .no (not-true _ (c .if1 .taken))))
+
+add-r : tie.Need-add-r Inv-loop μ-loop
+add-r c = omega arith
+
+loop-less : tie.Need-loop-less Inv-loop μ-loop
+loop-less c = omega arith
+
+loop-again : tie.Need-loop-again Inv-loop μ-loop
+loop-again c =
+    let s = c .before .settle .ensures in (
+      omega arith,
+      (s .0, s .1 .yes (not-false _ (c .if1 .left)) .on _ (c .before .before .before .before .before .loop .inv .1 .1)),
+    )
+
+returns-2 : tie.Need-returns-2 Inv-loop μ-loop
+returns-2 c = say-yes (found (omega arith) (c .before .loop .inv .1 .1))
+
+pub invert-spec : {M : Type 1} → statement M
+invert-spec =
+    tie.close
+    (tie.spec
+    Inv-loop
+    μ-loop
+    load-requires
+    loop-holds
+    settle-requires
+    returns
+    add-r
+    loop-less
+    loop-again
+    returns-2)

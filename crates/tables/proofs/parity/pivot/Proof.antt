@@ -1,0 +1,68 @@
+use mathlib.Core.Path.{_≡_, sym, ap, _∙_}
+use Prim.Native.Nat.{_-_, _≤_}
+use native.Mathlib.Omega.{arith}
+use lib.IntN.{pos}
+use Rattle.numbers.proofs.Congruence.{cong-of-eq}
+use Rattle.tables.specs.Elimination.{None}
+use Rattle.tables.specs.Parity.{bits}
+use Rattle.tables.proofs.Elimination.Stages.{none-more}
+use Rattle.tables.proofs.Elimination.Bits.{bit-one}
+use Rattle.tables.proofs.parity.pivot.Statement.{statement}
+use Rattle.tables.proofs.parity.pivot.Tie as tie
+
+abbrev Inv-loop : tie.InvT-loop
+Inv-loop n r p s₀ s = (r ≤ s) × ((s ≤ n) × None 2 s r (bits p))
+
+abbrev μ-loop : tie.MeasureT-loop
+μ-loop n r p s₀ s = n - s
+
+loop-holds : tie.Need-loop-holds Inv-loop μ-loop
+loop-holds c = (omega arith, (omega arith, λ j h k. absurd (omega arith)))
+
+mul-bit : tie.Need-mul-bit Inv-loop μ-loop
+mul-bit c = omega arith
+
+element-copy-out-bit : tie.Need-element-copy-out-bit Inv-loop μ-loop
+element-copy-out-bit c = omega arith
+
+bit-requires : tie.Need-bit-requires Inv-loop μ-loop
+bit-requires c κs = omega arith
+
+returns : tie.Need-returns Inv-loop μ-loop
+returns c = record {
+  from = omega arith;
+  upto = omega arith;
+  none = c .before .before .before .before .loop .inv .1 .1;
+  one = λ h. cong-of-eq (pos 2) (ap pos (bit-one _ _ (λ e. c .if1 .taken (c .before .bit .ensures ∙ e))));
+}
+
+add-s : tie.Need-add-s Inv-loop μ-loop
+add-s c = omega arith
+
+loop-less : tie.Need-loop-less Inv-loop μ-loop
+loop-less c = omega arith
+
+loop-again : tie.Need-loop-again Inv-loop μ-loop
+loop-again c =
+    (omega arith, (omega arith, none-more 2 _ _ (bits (c .before .before .before .before .before .args .p .now)) (c .before .before .before .before .loop .inv .1 .1) (cong-of-eq (pos 2) (ap pos (sym (c .before .bit .ensures) ∙ c .if1 .left)))))
+
+returns-2 : tie.Need-returns-2 Inv-loop μ-loop
+returns-2 c =
+    let e : c .before .loop .s ≡ c .before .before .args .n = omega arith in
+    record { from = omega arith; upto = omega arith; none = rw e at (c .before .loop .inv .1 .1); one = λ h. absurd (omega arith) }
+
+pub pivot-spec : {M : Type 1} → statement M
+pivot-spec =
+    tie.close
+    (tie.spec
+    Inv-loop
+    μ-loop
+    loop-holds
+    mul-bit
+    element-copy-out-bit
+    bit-requires
+    returns
+    add-s
+    loop-less
+    loop-again
+    returns-2)

@@ -1,0 +1,26 @@
+-- The vocabulary of the elimination's inner contracts: a reader of the public calls can skip it. Two tables C and P, which begin as I and A, undergo
+-- the same column operations modulo m until P is I. Any machine form of a table serves: it enters only by the table that it stands for.
+--   Kept n m A C P                what a column operation keeps: P = A·C, and a table that kills P kills A
+--   Going n m r A C P             the same, and the first r rows of P are those of I
+--   Advances n m r C P C′ P′      whatever A is, from r rows the work went on to r + 1
+--   None m k r P                  row r of P is 0 from column r up to column k
+use Prim.Native.Nat.{ℕ, _+_, _≤_, _<_}
+use lib.IntN.{pos}
+use Rattle.numbers.specs.Numbers.{Cong, δ}
+use Rattle.tables.specs.Tables.{Matrix, _·⟨_⟩_, CongM}
+
+-- `kills` for every divisor t of m: where m is a power, a stop shows that A has no inverse modulo the base
+pub record Kept (n m : ℕ) (A C P : Matrix) : Type 0 where
+  pub product : CongM n (pos m) P (A ·⟨ n ⟩ C)
+  pub kills : (t : ℕ) → Cong (pos t) (pos m) (pos 0) → (W : Matrix)
+      → CongM n (pos t) (W ·⟨ n ⟩ P) (λ i j. pos 0) → CongM n (pos t) (W ·⟨ n ⟩ A) (λ i j. pos 0)
+
+pub record Going (n m r : ℕ) (A C P : Matrix) : Type 0 where
+  pub kept : Kept n m A C P
+  pub rows : (i : ℕ) → i < r → (j : ℕ) → j < n → Cong (pos m) (P i j) (δ i j)
+
+pub record Advances (n m r : ℕ) (C P C′ P′ : Matrix) : Type 0 where
+  pub on : (A : Matrix) → Going n m r A C P → Going n m (r + 1) A C′ P′
+
+abbrev pub None : ℕ → ℕ → ℕ → Matrix → Type 0
+None m k r P = (j : ℕ) → r ≤ j → j < k → Cong (pos m) (P r j) (pos 0)
