@@ -2,9 +2,10 @@
 ghost use mathlib.Core.Path.{_≡_};
 ghost use Prim.Native.Nat.{ℕ, _+_, _*_, _^_, _≤_, _<_};
 ghost use lib.ListN.{length};
+ghost use Rattle.numbers.specs.Numbers.{Enough};
 ghost use Rattle.tables.specs.Tables.{entries, height};
 ghost use Rattle.tables.proofs.Lawful.{Lawful};
-ghost use Rattle.lifting.specs.Lifting.{LiftGives, Enough};
+ghost use Rattle.lifting.specs.Lifting.{LiftGives};
 ghost use Rattle.lifting.specs.Steps.{ToStep, Stepped, ToDigit, Digited, ToDouble, Doubled, ToFinish, Finished, Started, ToStart, Parity, Early, Begun};
 ghost use Rattle.tables.specs.Buffer.{Has};
 ghost use Rattle.lifting.specs.Views.{BlockGives};

@@ -5,7 +5,7 @@ ghost use lib.IntN.{ℤ, pos, natAbs, _+ℤ_, _-ℤ_, _*ℤ_};
 ghost use lib.ListN.{length, getD};
 ghost use lib.Signed.{shrZ};
 ghost use Rattle.numbers.specs.Numbers.{δ};
-ghost use Rattle.numbers.proofs.Rem.{rem};
+ghost use Rattle.numbers.specs.Remainder.{rem};
 ghost use Rattle.tables.specs.Tables.{_·⟨_⟩_, entries, block, height, IsOrder};
 ghost use Rattle.tables.specs.Buffer.{tableAt, Low, Has, Dot, Product, Shrink, Put, Balance, Extend, Vanishes, Copied};
 ghost use Rattle.tables.specs.Checks.{Says};

@@ -2,10 +2,10 @@
 ghost use mathlib.Core.Path.{_≡_};
 ghost use Prim.Native.Nat.{ℕ, _+_, _*_, _^_, _≤_, _<_};
 ghost use lib.ListN.{length};
+ghost use Rattle.numbers.specs.Numbers.{IsNeed, IsLifts};
 ghost use Rattle.tables.specs.Tables.{entries, block, height, IsOrder, HasWholeInverse};
 ghost use Rattle.tables.specs.Checks.{Says};
 ghost use Rattle.tables.proofs.Lawful.{Lawful};
-ghost use Rattle.lifting.specs.Lifting.{IsNeed, IsLifts};
 ghost use Rattle.verdict.specs.Verdict.{Narrow};
 ghost use Rattle.verdict.specs.Answer.{numberOf, VerdictSays, InverseSays, AllWide, Summed, Written, Wide};
 
