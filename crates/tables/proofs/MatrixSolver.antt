@@ -226,12 +226,12 @@ Holdsᴹ R n zero zero k xs As = Saysᴹ R n (λ i. getD xs i (pos 0)) (λ i. ge
 Holdsᴹ R n zero (suc m) f xs As = (A : Matrix) → Holdsᴹ R n zero m (f (mat m)) xs (A ∷ As)
 Holdsᴹ R n (suc s) m f xs As = (x : ℤ) → Holdsᴹ R n s m (f (var s)) (x ∷ xs) As
 
-module _ (n : ℕ) (R : Relation) (says′ : (ρ : ℕ → ℤ) (σ : ℕ → Matrix) (k : Claimᴹ) → meaning n ρ σ (gapᴹ k) ≈⟨ n ⟩ 𝟘 → Saysᴹ R n ρ σ k) where
+module _ (n : ℕ) (R : Relation) (conclude : (ρ : ℕ → ℤ) (σ : ℕ → Matrix) (k : Claimᴹ) → meaning n ρ σ (gapᴹ k) ≈⟨ n ⟩ 𝟘 → Saysᴹ R n ρ σ k) where
   prove : (s m : ℕ) (f : Underᴹ s m) → T (passesᴹ s m f) → (xs : List ℤ) (As : List Matrix) → Holdsᴹ R n s m f xs As
   prove zero zero k t xs As =
       let ρ : ℕ → ℤ = λ i. getD xs i (pos 0) in
       let σ : ℕ → Matrix = λ i. getD As i 𝟘 in
-      says′ ρ σ k (λ i j a b. sym (total-terms n ρ σ (gapᴹ k) i j a b) ∙ total-vanish n ρ σ (terms (gapᴹ k)) t i j)
+      conclude ρ σ k (λ i j a b. sym (total-terms n ρ σ (gapᴹ k) i j a b) ∙ total-vanish n ρ σ (terms (gapᴹ k)) t i j)
   prove zero (suc m) f t xs As = λ A. prove zero m (f (mat m)) t xs (A ∷ As)
   prove (suc s) m f t xs As = λ x. prove s m (f (var s)) t (x ∷ xs) As
 
