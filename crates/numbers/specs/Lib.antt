@@ -1,4 +1,5 @@
 pub mod Numbers
+pub mod Remainder
 pub mod Limits
 pub mod Refusals
 pub mod Says

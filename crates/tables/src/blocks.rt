@@ -5,11 +5,11 @@ ghost use lib.IntN.{ℤ, pos, natAbs, _+ℤ_, _-ℤ_, _*ℤ_};
 ghost use lib.ListN.{length, getD};
 ghost use lib.Signed.{shrZ};
 ghost use Rattle.numbers.specs.Numbers.{δ};
-ghost use Rattle.numbers.proofs.Rem.{rem};
-ghost use Rattle.tables.specs.Tables.{_·⟨_⟩_, _≈⟨_⟩_, entries, block, height};
 ghost use Rattle.numbers.specs.Limits.{IsOrder};
-ghost use Rattle.tables.specs.Buffer.{tableAt, Low, Has, Dot, Product, Shrink, Put, Balance, Extend, Copied};
+ghost use Rattle.numbers.specs.Remainder.{rem};
 ghost use Rattle.numbers.specs.Says.{Tells};
+ghost use Rattle.tables.specs.Tables.{_·⟨_⟩_, _≈⟨_⟩_, entries, block};
+ghost use Rattle.tables.specs.Buffer.{tableAt, Low, Has, Dot, Product, Shrink, Put, Balance, Extend, Copied};
 
 // entry (i, k) of the table at place p
 fn cell(n: usize, a: &[i64], p: usize, i: usize, k: usize) -> i64

@@ -10,12 +10,11 @@ use lib.ListN.{length}
 use Rattle.numbers.specs.Limits.{IsOrder, Legal}
 use Rattle.numbers.specs.Refusals.{done, _when_then_, Gives}
 use Rattle.numbers.proofs.Refusals.{Lowest, gives-lowest}
-use Rattle.numbers.specs.Numbers.{δ}
+use Rattle.numbers.specs.Numbers.{δ, IsNeed, IsLifts}
 use Rattle.tables.specs.Tables.{Matrix, _≈⟨_⟩_, _·⟨_⟩_, entries, height, HasWholeInverse}
 use Rattle.tables.specs.Checks.{Lawful}
 use Rattle.tables.proofs.TwoSided.{inverse-unique}
 use Rattle.tables.proofs.Views.{both?, order?}
-use Rattle.lifting.specs.Lifting.{IsNeed, IsLifts}
 use Rattle.verdict.specs.Verdict.{IsNarrow, Narrow, TooWide, answer, outcomeOf, Told, after-0, after-7, after-8, Values, verdictRefusals, VerdictGives, inverseRefusals, InverseGives}
 use Rattle.verdict.specs.Parts.{AllWide, Written}
 use Rattle.verdict.specs.declared.Ruling.{Ruling}

@@ -9,7 +9,8 @@ use Prim.Native.Nat.{ℕ, _+_, _*_, _^_, _≤_}
 use lib.IntN.{ℤ, pos, negℤ}
 use lib.ListN.{length, replicate}
 use Rattle.tables.specs.Tables.{entries, height}
-use Rattle.lifting.specs.Lifting.{Enough, IsNeed, IsLifts, IsExpansion, LiftGives}
+use Rattle.lifting.specs.Lifting.{IsExpansion, LiftGives}
+use Rattle.numbers.specs.Numbers.{Enough, IsNeed, IsLifts}
 use Rattle.verdict.specs.Verdict.{RuleYes, answer, VerdictGives, InverseGives}
 use Rattle.verdict.specs.declared.Outcome.{Outcome}
 

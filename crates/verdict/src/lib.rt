@@ -6,7 +6,7 @@ ghost use Rattle.tables.specs.Tables.{entries, block, height, HasWholeInverse};
 ghost use Rattle.numbers.specs.Limits.{IsOrder};
 ghost use Rattle.numbers.specs.Says.{Says, Tells};
 ghost use Rattle.tables.specs.Checks.{Lawful};
-ghost use Rattle.lifting.specs.Lifting.{IsNeed, IsLifts};
+ghost use Rattle.numbers.specs.Numbers.{IsNeed, IsLifts};
 ghost use Rattle.verdict.specs.Verdict.{Narrow, outcomeOf, VerdictGives, InverseGives};
 ghost use Rattle.verdict.specs.Parts.{AllWide, Summed, Written, Wide};
 

@@ -1,5 +1,4 @@
 -- The bits of a word as a column modulo 2: exclusive or is the sum, a shifted 1 a unit column; and the machine's test of parity.
--- Assumes nothing.
 use mathlib.Core.Path.{_≡_, refl, sym, ap, _∙_}
 use mathlib.Core.Logic.{_≢_}
 use mathlib.Core.Bool.{true, false, not}
@@ -19,7 +18,7 @@ use mir.Syntax.{w64}
 use mir.Val.{SFits, toZ, ofZ}
 use Rattle.numbers.specs.Says.{Says}
 use Rattle.numbers.proofs.Says.{say-yes, say-no}
-use Rattle.numbers.proofs.RingSolver.{ring, from, #_, ⊝_, _⊕_, _⊖_, _⊗_, _≐_}
+use Rattle.numbers.proofs.RingSolver.{ring, if_is_by_then_, #_, ⊝_, _⊕_, _⊖_, _⊗_, _≐_}
 use Rattle.numbers.proofs.Sum.{δ, δ-same, δ-other}
 use Rattle.numbers.proofs.Congruence.{Cong, cong-of-eq, cong-sym, cong-trans}
 use Rattle.tables.specs.Parity.{bits, xored}
@@ -82,7 +81,7 @@ one-shl i h = shl-exact {a = 1} 1 i 32 (omega arith) (omega arith) ∙ one-mul (
 mod2-cong : (k : ℕ) → Cong (pos 2) (pos (k % 2)) (pos k)
 mod2-cong k =
     let e : pos k ≡ pos 2 *ℤ pos (k / 2) +ℤ pos (k % 2) = ap pos (omega arith) in
-    record { quot = negℤ (pos (k / 2)); eqn = from (sym e) (ring 3 (λ k q r. r ⊖ k ⊖ # 2 ⊗ (⊝ q) ≐ (# 2 ⊗ q ⊕ r) ⊖ k) tt (pos k) (pos (k / 2)) (pos (k % 2))) }
+    record { quot = negℤ (pos (k / 2)); eqn = ring 3 (λ k q r. if k is # 2 ⊗ q ⊕ r by (⊝ # 1) then r ⊖ k ≐ # 2 ⊗ ⊝ q) tt (pos k) (pos (k / 2)) (pos (k % 2)) e }
 
 odd-pos : (z : ℤ) (m : ℕ) → m < 2 → Cong (pos 2) (pos m) z → Says (Cong (pos 2) z (pos 1)) (Cong (pos 2) z (pos 0)) (not (eqb m 0))
 odd-pos z zero h e = say-no (cong-sym e)

@@ -1,5 +1,4 @@
 -- Words that are filled column by column, and the table that is read back from them.
--- Assumes nothing.
 use mathlib.Core.Path.{_≡_, refl, ap, _∙_}
 use mathlib.Core.Logic.{_≢_, _⊎_, inl, inr}
 use mathlib.Core.List.{List}
@@ -15,8 +14,7 @@ use Rattle.numbers.proofs.Sum.{δ}
 use Rattle.numbers.proofs.Congruence.{Cong, cong-of-eq, cong-sym, cong-trans}
 use Rattle.tables.specs.Tables.{Matrix, _·⟨_⟩_, CongM}
 use Rattle.tables.specs.Parity.{InverseMod2, bits, Sized, Loaded, Unpacked}
-use Rattle.tables.proofs.Matrix.{congM-·}
-use Rattle.tables.proofs.Inverses.{congM-eq, congM-refl, congM-trans}
+use Rattle.tables.proofs.Matrix.{congM-eq, congM-refl, congM-trans, congM-·}
 use Rattle.tables.proofs.Elimination.Bits.{bit-lt, bit-zero, bit-xor, bit-same, bit-other}
 
 -- ---- a word, bit by bit

@@ -1,6 +1,5 @@
 -- The elimination from its start to its two ends: P is I, and then C is an inverse of A; or row r has no entry from column r on,
 -- and then the row u = δ_r - P_r kills P and so A, while its entry r is 1.
--- Assumes nothing.
 use mathlib.Core.Path.{_≡_, sym, ap, subst}
 use mathlib.Core.Logic.{_≢_}
 use Prim.Native.Nat.{ℕ, _+_, _≤_, _<_}
@@ -8,28 +7,28 @@ use native.Mathlib.Decide.{decLt}
 use native.Mathlib.Omega.{arith}
 use borrow.Author.Count.{below-more}
 use lib.IntN.{ℤ, pos, _+ℤ_, _*ℤ_}
-use Rattle.numbers.proofs.RingSolver.{ring, #_, _⊕_, _⊖_, _⊗_, _≐_}
+use Rattle.numbers.proofs.RingSolver.{ring, #_, ⊝_, _⊕_, _⊖_, _⊗_, _≐_}
 use Rattle.numbers.proofs.Sum.{δ, δ-same, δ-other}
-use Rattle.numbers.proofs.Congruence.{Cong, cong-of-eq, cong-sym, cong-trans, cong-near, cong-+, cong-*, cong-sub, cong-sum}
+use Rattle.numbers.proofs.Congruence.{Cong, cong-of-eq, cong-refl, cong-sym, cong-down, cong-trans, cong-near, cong-+, cong-*, cong-sub, cong-sum}
 use Rattle.tables.specs.Tables.{Matrix, _⊟_, _·⟨_⟩_, CongM, HasInverseMod}
 use Rattle.tables.specs.Elimination.{Going, None}
-use Rattle.tables.proofs.Matrix.{·-⊟ʳ, ·-idˡ, ·-idʳ, congM-·}
-use Rattle.tables.proofs.Inverses.{congM-eq, congM-refl, congM-sym, congM-trans, no-inverse}
-use Rattle.tables.proofs.Elimination.Steps.{cong-refl, cong-down, Stepped, going-add}
+use Rattle.tables.proofs.Matrix.{·-idʳ}
+use Rattle.tables.proofs.MatrixSolver.{matrix, modular, given_is_by_and_then_, 𝟘ᵉ, 𝟙, _⊟ᵉ_, _·ᵉ_, _⊙ᵉ_, _≑_}
+use Rattle.tables.proofs.Inverses.{no-inverse}
+use Rattle.tables.proofs.Elimination.Steps.{Stepped, going-add}
 
 -- ---- the start
 
 pub going-first : {n m : ℕ} {A C P : Matrix} → CongM n (pos m) C δ → CongM n (pos m) P A → Going n m 0 A C P
 going-first {n} {m} {A} {C} {P} c p = record {
   kept = record {
-    product = congM-trans n x p (congM-trans n x (congM-sym n x (congM-eq n x (·-idʳ n A))) (congM-· n x (congM-refl n x A) (congM-sym n x c)));
-    kills = λ t q W z. congM-trans n (pos t) (congM-· n (pos t) (congM-refl n (pos t) W) (λ i j h k. cong-sym (cong-down q (p i j h k)))) z;
+    product = modular n (pos m) 0 3 (λ A C P. given C is 𝟙 by (⊝ # 1) ⊙ᵉ A and 𝟙 then given P is A by 𝟙 and 𝟙 then P ≑ A ·ᵉ C) tt A C P c p;
+    kills = λ t q W z.
+        modular n (pos t) 0 3 (λ W A P. given P is A by (⊝ # 1) ⊙ᵉ W and 𝟙 then given W ·ᵉ P is 𝟘ᵉ by 𝟙 and 𝟙 then W ·ᵉ A ≑ 𝟘ᵉ) tt
+        W A P (λ i j h k. cong-down (p i j h k) q) z;
   };
   rows = λ i h. absurd (omega arith);
 }
-  where
-    x : ℤ
-    x = pos m
 
 -- ---- a row is cleared, by column r, whose entry in it is 1
 
@@ -101,7 +100,7 @@ stuck {n} {m} {r} {A} {C} {P} t q two h g none = no-inverse t n W A r h (g .kept
         cong-trans (cong-sum x n (λ k hk. go k hk (decLt k r))) (cong-of-eq x (·-idʳ n P r j h hj))
       where
         go : (k : ℕ) → k < n → Dec (k < r) → Cong x (P r k *ℤ P k j) (P r k *ℤ δ k j)
-        go k hk (yes l) = cong-* (cong-refl (P r k)) (cong-down q (g .rows k l j hj))
+        go k hk (yes l) = cong-* (cong-refl (P r k)) (cong-down (g .rows k l j hj) q)
         go k hk (no l) =
             let z : Cong x (P r k) (pos 0) = none k (omega arith) hk in
             cong-trans (cong-* z (cong-refl (P k j)))
@@ -109,8 +108,8 @@ stuck {n} {m} {r} {A} {C} {P} t q two h g none = no-inverse t n W A r h (g .kept
 
     kills : CongM n x (W ·⟨ n ⟩ P) (λ i j. pos 0)
     kills i j hi hj =
-        cong-trans (cong-of-eq x (ap {B = ℤ} (λ M. M r j) (·-⊟ʳ n δ P P)))
-        (cong-trans (cong-sub (cong-of-eq x (·-idˡ n P r j h hj)) (square j hj)) (cong-of-eq x (ring 1 (λ p. p ⊖ p ≐ # 0) tt (P r j))))
+        cong-trans (cong-of-eq x (matrix n 0 1 (λ P. (𝟙 ⊟ᵉ P) ·ᵉ P ≑ P ⊟ᵉ P ·ᵉ P) tt P r j h hj))
+        (cong-trans (cong-sub (cong-refl (P r j)) (square j hj)) (cong-of-eq x (ring 1 (λ p. p ⊖ p ≐ # 0) tt (P r j))))
 
     one : ¬ Cong x (W r r) (pos 0)
     one z =

@@ -1,29 +1,16 @@
 -- Column operations modulo x, and what they keep. An operation on C is the same operation on M·C, for every M: so P = A·C stays,
 -- and where W·P comes to 0 it was 0.
--- Assumes nothing.
 use mathlib.Core.Path.{_≡_, refl, sym, ap, ap₂, _∙_, subst}
 use mathlib.Core.Logic.{_≢_, _⊎_, inr, ⊎-elim}
 use Prim.Native.Nat.{ℕ, _≤_, _<_}
 use native.Mathlib.Decide.{ℕ-discrete}
 use native.Mathlib.Omega.{arith}
 use lib.IntN.{ℤ, pos, _+ℤ_, _*ℤ_}
-use Rattle.numbers.proofs.RingSolver.{ring, from, #_, _⊕_, _⊖_, _⊗_, _≐_}
+use Rattle.numbers.proofs.RingSolver.{ring, #_, _⊕_, _⊖_, _⊗_, _≐_}
 use Rattle.numbers.proofs.Sum.{sum, sum-cong, sum-+, sum-scaleˡ, δ, δ-other}
-use Rattle.numbers.proofs.Congruence.{Cong, cong-of-eq, cong-sym, cong-trans, cong-+, cong-*, cong-sub, cong-sum}
+use Rattle.numbers.proofs.Congruence.{Cong, cong-of-eq, cong-refl, cong-sym, cong-down, cong-trans, cong-+, cong-*, cong-sub, cong-sum}
 use Rattle.tables.specs.Tables.{Matrix, _·⟨_⟩_, CongM}
 use Rattle.tables.specs.Elimination.{Kept, Going}
-
--- a congruence modulo m is one modulo each divisor of m
-pub cong-down : {t m z w : ℤ} → Cong t m (pos 0) → Cong m z w → Cong t z w
-cong-down {t} {m} {z} {w} d h =
-    record {
-      quot = d .quot *ℤ h .quot;
-      eqn = from (ap₂ (λ p q. p *ℤ h .quot +ℤ q) (d .eqn) (h .eqn))
-          (ring 6 (λ t m z w p q. z ⊖ w ⊖ t ⊗ (p ⊗ q) ≐ ((m ⊖ # 0) ⊗ q ⊕ (z ⊖ w)) ⊖ (t ⊗ p ⊗ q ⊕ m ⊗ q)) tt t m z w (d .quot) (h .quot));
-    }
-
-pub cong-refl : {x : ℤ} (z : ℤ) → Cong x z z
-cong-refl {x} z = cong-of-eq x refl
 
 -- column d becomes a times itself and f times column s
 pub record Stepped (x : ℤ) (n d s : ℕ) (a f : ℤ) (C C′ : Matrix) : Type 0 where
@@ -39,10 +26,10 @@ pub record Undone (x : ℤ) (n d s : ℕ) (a f : ℤ) : Type 0 where
 
 module _ {t m : ℤ} {n d s : ℕ} {a f : ℤ} (q : Cong t m (pos 0)) where
   stepped-down : {C C′ : Matrix} → Stepped m n d s a f C C′ → Stepped t n d s a f C C′
-  stepped-down h = record { rest = λ i j k l e. cong-down q (h .rest i j k l e); here = λ i k. cong-down q (h .here i k) }
+  stepped-down h = record { rest = λ i j k l e. cong-down (h .rest i j k l e) q; here = λ i k. cong-down (h .here i k) q }
 
   undone-down : Undone m n d s a f → Undone t n d s a f
-  undone-down u = record { inside = u .inside; apart = u .apart; unit = u .unit; inverse = cong-down q (u .inverse) }
+  undone-down u = record { inside = u .inside; apart = u .apart; unit = u .unit; inverse = cong-down (u .inverse) q }
 
 -- M·(a C_d + f C_s) = a (M·C_d) + f (M·C_s)
 ·-linear : (n d s : ℕ) (a f : ℤ) (M C : Matrix) (i : ℕ)

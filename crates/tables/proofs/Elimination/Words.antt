@@ -9,11 +9,11 @@ use lib.Bits.{bitXor}
 use lib.IntN.{pos, _+ℤ_}
 use lib.ListN.{getD}
 use Rattle.numbers.proofs.Sum.{δ-other}
-use Rattle.numbers.proofs.Congruence.{Cong, cong-of-eq, cong-trans, cong-+, cong-*}
+use Rattle.numbers.proofs.Congruence.{Cong, cong-of-eq, cong-trans, cong-+, cong-*, cong-refl}
 use Rattle.tables.specs.Tables.{Matrix}
 use Rattle.tables.specs.Elimination.{Going}
 use Rattle.tables.specs.Parity.{bits, xored, Sized, Pivot}
-use Rattle.tables.proofs.Elimination.Steps.{cong-refl, going-add}
+use Rattle.tables.proofs.Elimination.Steps.{going-add}
 use Rattle.tables.proofs.Elimination.Stages.{Clearing, clear-none, clear-pivot, clear-pass, clear-add}
 use Rattle.tables.proofs.Elimination.Bits.{bit-one, xor-step}
 use Rattle.tables.proofs.Elimination.Loading.{sized-set}

@@ -8,7 +8,7 @@ use Rattle.numbers.proofs.Machine.{rd, rd-is, rd-ok, rd-got}
 use Rattle.tables.specs.Tables.{_·⟨_⟩_, block, entries}
 use Rattle.tables.proofs.Wrote.{Wrote, wrote-none, wrote-more}
 use lib.Pow.{pow-pos}
-use Rattle.numbers.proofs.Rem.{rem}
+use Rattle.numbers.specs.Remainder.{rem}
 use Rattle.tables.proofs.Buffers.{square-small, flat, flat-block, put-of, low-flat, balance-gives}
 use Rattle.tables.proofs.blocks.balance.Statement.{statement}
 use Rattle.tables.proofs.blocks.balance.Tie as tie
