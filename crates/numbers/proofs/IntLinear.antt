@@ -4,7 +4,7 @@
 --     minus z      a negation `negℤ z`; a -ℤ b is a +ℤ negℤ b
 --     sums a b     a sum a +ℤ b
 --     scales n z   a multiple pos n *ℤ z
--- So `omega (arith, integers, sums a (negℤ b), minus b)` proves `a ≤ℤ b → (a -ℤ b) ≤ℤ pos 0`. Assumes nothing.
+-- So `omega (arith, integers, sums a (negℤ b), minus b)` proves `a ≤ℤ b → (a -ℤ b) ≤ℤ pos 0`.
 use mathlib.Core.Path.{_≡_, refl, ap}
 use mathlib.Core.Bool.{Bool, true, false, not, cond}
 use Prim.Native.Nat.{ℕ, zero, suc, _+_, _-_, _*_, _≤_, _<_, min, max}

@@ -1,4 +1,4 @@
--- The number rules as tests that compute: each is passed exactly where its rule holds. Assumes nothing.
+-- The number rules as tests that compute: each is passed exactly where its rule holds.
 use mathlib.Core.Path.{_≡_, sym, ap, _∙_}
 use mathlib.Core.Bool.{Bool, _&&_}
 use Prim.Native.Nat.{ℕ, suc, _+_, _*_, _/_, _%_}

@@ -5,7 +5,7 @@
 -- `modular n z` proves the congruence `CongM n z` in the same way. A hypothesis that l is r is used between two factors, p·(l - r)·q:
 -- `given l is r by p and q then ..`.
 -- A side becomes a sum of products of matrices, each with a polynomial of the integers as its coefficient (`Terms`). A product of matrices is a
--- word, so that they need not commute. Assumes nothing.
+-- word, so that they need not commute.
 use mathlib.Core.Path.{_≡_, refl, sym, ap, ap₂, _∙_, subst}
 use mathlib.Core.Bool.{Bool, true, false, _&&_}
 use mathlib.Core.List.{List, [], _∷_, _++_}

@@ -1,6 +1,6 @@
 // The checks of a lent table.
 ghost use mathlib.Core.Path.{_≡_};
-ghost use Prim.Native.Nat.{ℕ, _*_, _≤_};
+ghost use Prim.Native.Nat.{_*_, _≤_};
 ghost use lib.ListN.{length};
 ghost use Rattle.numbers.specs.Limits.{IsOrder, IsEntry, Legal};
 ghost use Rattle.numbers.specs.Says.{Tells};

@@ -1,21 +1,21 @@
 -- The numbers that verdict and inverse give back, in their order, with their two values.
-use mathlib.Core.Path.{_≡_, refl, sym, ap, subst, _∙_}
+use mathlib.Core.Path.{_≡_, refl, sym, subst}
 use mathlib.Core.Logic.{_≢_, _⊎_, inl, inr, ⊎-elim}
 use mathlib.Core.List.{List, [], _∷_}
-use Prim.Native.Nat.{ℕ, _+_, _*_, _^_, _≤_, _<_}
+use Prim.Native.Nat.{ℕ, _*_, _^_}
 use native.Mathlib.Omega.{arith}
 use native.Mathlib.Decide.{ℕ-discrete, decLe}
-use lib.IntN.{ℤ, pos, natAbs}
+use lib.IntN.{ℤ, natAbs}
 use lib.ListN.{length}
 use Rattle.numbers.specs.Limits.{IsOrder, Legal}
-use Rattle.numbers.specs.Refusals.{done, _when_then_, Gives}
+use Rattle.numbers.specs.Refusals.{Gives}
 use Rattle.numbers.proofs.Refusals.{Lowest, gives-lowest}
-use Rattle.numbers.specs.Numbers.{δ, IsNeed, IsLifts}
-use Rattle.tables.specs.Tables.{Matrix, _≈⟨_⟩_, _·⟨_⟩_, entries, height, HasWholeInverse}
+use Rattle.numbers.specs.Numbers.{IsNeed, IsLifts}
+use Rattle.tables.specs.Tables.{entries, height, HasWholeInverse}
 use Rattle.tables.specs.Checks.{Lawful}
 use Rattle.tables.proofs.TwoSided.{inverse-unique}
 use Rattle.tables.proofs.Views.{both?, order?}
-use Rattle.verdict.specs.Verdict.{IsNarrow, Narrow, TooWide, answer, outcomeOf, Told, after-0, after-7, after-8, Values, verdictRefusals, VerdictGives, inverseRefusals, InverseGives}
+use Rattle.verdict.specs.Verdict.{IsNarrow, TooWide, answer, outcomeOf, Told, after-0, after-7, after-8, Values, verdictRefusals, VerdictGives, inverseRefusals, InverseGives}
 use Rattle.verdict.specs.Parts.{AllWide, Written}
 use Rattle.verdict.specs.declared.Ruling.{Ruling}
 use Rattle.verdict.specs.declared.Ruling.the-variants.{Yes, No, Refused}

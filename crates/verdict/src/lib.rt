@@ -1,6 +1,6 @@
 // Verdict and inverse.
 ghost use mathlib.Core.Path.{_≡_};
-ghost use Prim.Native.Nat.{ℕ, _+_, _*_, _^_, _≤_, _<_};
+ghost use Prim.Native.Nat.{_+_, _*_, _<_};
 ghost use lib.ListN.{length};
 ghost use Rattle.tables.specs.Tables.{entries, block, height, HasWholeInverse};
 ghost use Rattle.numbers.specs.Limits.{IsOrder};

@@ -1,7 +1,7 @@
 -- The bits of a word as a column modulo 2: exclusive or is the sum, a shifted 1 a unit column; and the machine's test of parity.
 use mathlib.Core.Path.{_≡_, refl, sym, ap, _∙_}
 use mathlib.Core.Logic.{_≢_}
-use mathlib.Core.Bool.{true, false, not}
+use mathlib.Core.Bool.{not}
 use mathlib.Core.List.{List}
 use Prim.Native.Nat.{ℕ, zero, suc, _+_, _-_, _*_, _/_, _%_, _^_, _<_, _≤_}
 use native.Mathlib.Nat.{mod-lt, zero-div, div-self, div-eq-of-lt, mul-mod-left, pow-suc, one-mul}

@@ -1,6 +1,6 @@
 -- The elimination from its start to its two ends: P is I, and then C is an inverse of A; or row r has no entry from column r on,
 -- and then the row u = δ_r - P_r kills P and so A, while its entry r is 1.
-use mathlib.Core.Path.{_≡_, sym, ap, subst}
+use mathlib.Core.Path.{_≡_, sym, subst}
 use mathlib.Core.Logic.{_≢_}
 use Prim.Native.Nat.{ℕ, _+_, _≤_, _<_}
 use native.Mathlib.Decide.{decLt}

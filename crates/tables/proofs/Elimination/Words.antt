@@ -1,5 +1,4 @@
 -- The elimination's stages on words of bits: what the program's loops hold, and how each of their turns keeps it.
--- Assumes nothing.
 use mathlib.Core.Path.{_≡_, refl, sym, ap, _∙_}
 use mathlib.Core.Logic.{_≢_}
 use mathlib.Core.List.{List}

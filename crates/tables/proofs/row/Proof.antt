@@ -1,11 +1,9 @@
 use mathlib.Core.Path.{_≡_, refl}
-use Prim.Native.Nat.{ℕ, _+_, _*_, _-_, _≤_}
+use Prim.Native.Nat.{_+_, _*_, _-_}
 use native.Mathlib.Nat.{add-comm}
 use native.Mathlib.Omega.{arith}
 use borrow.Author.Needs.{needs}
 use denote.Ref.{ptr}
-use Rattle.tables.specs.Views.{HasRow}
-use Rattle.tables.proofs.Buffers.{square-small}
 use Rattle.tables.proofs.Views.{row-fits, row-there, row-none}
 use Rattle.tables.proofs.row.Statement.{statement}
 use Rattle.tables.proofs.row.Tie as tie

@@ -3,32 +3,21 @@ use Rattle.lifting.proofs.Holding.{in-buffer, to-start, holds-first, holds-stag
 use Rattle.numbers.proofs.Says.{say-yes, say-no}
 use borrow.Author.Tests.{not-true, not-false}
 use native.Mathlib.Omega.{arith}
-use Prim.Native.Nat.{ℕ, _≤_, _<_, _-_, _+_, _^_}
-use mathlib.Core.Path.{_≡_, sym, ap, _∙_}
+use Prim.Native.Nat.{_-_}
+use mathlib.Core.Path.{_∙_}
 use borrow.Author.Needs.{needs}
 use Rattle.verdict.proofs.digits.Statement.{statement}
 use Rattle.verdict.proofs.digits.Tie as tie
-use Rattle.verdict.proofs.digits.Reads as reads
-use Rattle.verdict.proofs.digits.Lts as lts
-use Rattle.lifting.proofs.digit.Reads as digit-reads
-use Rattle.tables.proofs.blocks.extend.Reads as extend-reads
-use Rattle.tables.proofs.blocks.vanishes.Reads as vanishes-reads
-use Rattle.tables.proofs.blocks.within.Reads as within-reads
-use Rattle.lifting.proofs.start.Reads as start-reads
 
--- src/lib.rt:110:9
 start-requires : tie.Need-start-requires
 start-requires c κs = to-start (c .before .pre .0) (enough-32 (c .before .pre .0)) (omega arith) (c .before .pre .1)
 
--- src/lib.rt:111:9
 same-length : tie.Need-same-length
 same-length c = search needs
 
--- src/lib.rt:111:9
 returns : tie.Need-returns
 returns c = say-no (even-wide (c .before .before .start .ensures .no (not-true _ (c .if1 .taken))))
 
--- src/lib.rt:113:5
 digit-requires : tie.Need-digit-requires
 digit-requires c κs =
     let m = c .before .before .before .before .before .pre .0 .order .upto in
@@ -40,39 +29,30 @@ digit-requires c κs =
       base-r = λ e. omega arith;
     }
 
--- src/lib.rt:114:9
 vanishes-requires : tie.Need-vanishes-requires
 vanishes-requires c κs = (c .before .before .before .before .before .before .before .before .pre .0 .order, in-buffer 1 (c .before .before .before .before .before .before .before .before .pre .0 .order .upto) (omega arith) (c .before .before .digit .ensures .long ∙ c .before .before .before .before .before .before .start .ensures .long ∙ c .before .before .before .before .before .before .before .before .pre .1))
 
--- src/lib.rt:115:9
 same-length-2 : tie.Need-same-length-2
 same-length-2 c = search needs
 
--- src/lib.rt:115:9
 returns-2 : tie.Need-returns-2
 returns-2 c = say-no (rest-wide _ (c .before .before .before .before .before .before .before .before .start .ensures .yes (not-false _ (c .before .before .before .before .before .before .if1 .left))) ((c .before .before .before .before .digit .ensures) .step) (c .before .vanishes .ensures .no (not-true _ (c .if2 .taken))))
 
--- src/lib.rt:117:9
 within-requires : tie.Need-within-requires
 within-requires c κs = (c .before .before .before .before .before .before .before .before .before .before .before .pre .0 .order, in-buffer 2 (c .before .before .before .before .before .before .before .before .before .before .before .pre .0 .order .upto) (omega arith) (c .before .before .before .before .before .digit .ensures .long ∙ c .before .before .before .before .before .before .before .before .before .start .ensures .long ∙ c .before .before .before .before .before .before .before .before .before .before .before .pre .1))
 
--- src/lib.rt:118:9
 same-length-3 : tie.Need-same-length-3
 same-length-3 c = search needs
 
--- src/lib.rt:118:9
 returns-3 : tie.Need-returns-3
 returns-3 c = say-no (high-wide _ (c .before .before .before .before .before .before .before .before .before .before .before .start .ensures .yes (not-false _ (c .before .before .before .before .before .before .before .before .before .if1 .left))) ((c .before .before .before .before .before .before .before .digit .ensures) .step) (c .before .before .before .before .vanishes .ensures .yes (not-false _ (c .before .before .before .if2 .left))) (c .before .within .ensures .no (not-true _ (c .if3 .taken))))
 
--- src/lib.rt:120:5
 extend-requires : tie.Need-extend-requires
 extend-requires c κs = extend-asks (c .before .before .before .before .before .before .before .before .before .before .before .before .start .ensures .yes (not-false _ (c .before .before .before .before .before .before .before .before .before .before .if1 .left))) (c .before .before .before .before .before .before .before .before .digit .ensures) (c .before .before .before .before .before .before .before .before .before .before .before .before .before .before .pre .0 .order) (c .before .before .before .before .before .before .before .before .digit .ensures .long ∙ c .before .before .before .before .before .before .before .before .before .before .before .before .start .ensures .long ∙ c .before .before .before .before .before .before .before .before .before .before .before .before .before .before .pre .1) (c .before .before .within .ensures .yes (not-false _ (c .before .if3 .left)))
 
--- src/lib.rt:105:1
 same-length-4 : tie.Need-same-length-4
 same-length-4 c = search needs
 
--- src/lib.rt:105:1
 returns-4 : tie.Need-returns-4
 returns-4 c = say-yes (summed (c .before .before .before .before .before .before .before .before .before .before .before .before .before .before .start .ensures .yes (not-false _ (c .before .before .before .before .before .before .before .before .before .before .before .before .if1 .left))) (c .before .before .before .before .before .before .before .before .before .before .digit .ensures) (c .before .before .before .before .before .before .before .vanishes .ensures .yes (not-false _ (c .before .before .before .before .before .before .if2 .left))) (c .before .extend .ensures))
 

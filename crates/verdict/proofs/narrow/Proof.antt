@@ -4,15 +4,10 @@ use Rattle.numbers.proofs.Says.{say-map}
 use native.Mathlib.Omega.{arith}
 use Rattle.verdict.proofs.narrow.Statement.{statement}
 use Rattle.verdict.proofs.narrow.Tie as tie
-use Rattle.verdict.proofs.narrow.Reads as reads
-use Rattle.verdict.proofs.narrow.Lts as lts
-use Rattle.tables.proofs.blocks.within.Reads as within-reads
 
--- src/lib.rt:136:5
 within-requires : tie.Need-within-requires
 within-requires c κs = (c .pre .0, in-buffer 0 (c .pre .0 .upto) (omega arith) (c .pre .1))
 
--- src/lib.rt:132:1
 returns : tie.Need-returns
 returns c = say-map narrow-low low-narrow (c .within .ensures)
 

@@ -1,4 +1,4 @@
-use mathlib.Core.Path.{refl}
+use mathlib.Core.Path.{refl, _≡_, sym, _∙_}
 use Rattle.verdict.proofs.Rule.{judged}
 use Rattle.lifting.proofs.Holding.{in-buffer, to-start, Holds, holds-first, holds-stage, holds-step, need-upto}
 use Rattle.tables.proofs.Inverses.{whole-mod}
@@ -7,15 +7,9 @@ use lib.ListN.{length}
 use borrow.Author.Tests.{not-true, not-false}
 use native.Mathlib.Omega.{arith}
 use native.Mathlib.Numerals.{add-one}
-use Prim.Native.Nat.{ℕ, _≤_, _<_, _-_, _+_, _^_}
-use mathlib.Core.Path.{_≡_, sym, ap, _∙_}
+use Prim.Native.Nat.{_≤_, _-_, _+_}
 use Rattle.verdict.proofs.whole.Statement.{statement}
 use Rattle.verdict.proofs.whole.Tie as tie
-use Rattle.verdict.proofs.whole.Reads as reads
-use Rattle.verdict.proofs.whole.Lts as lts
-use Rattle.lifting.proofs.step.Reads as step-reads
-use Rattle.tables.proofs.blocks.vanishes.Reads as vanishes-reads
-use Rattle.lifting.proofs.start.Reads as start-reads
 
 abbrev Inv-loop : tie.InvT-loop
 Inv-loop n e k a buf₀ r₀ s₀ t₀ buf r s t = (t ≤ k) × ((length buf ≡ 4096) × (((r + s ≡ 3) × ((1 ≤ r) × (1 ≤ s))) × Holds n e a buf t r))
@@ -23,23 +17,18 @@ Inv-loop n e k a buf₀ r₀ s₀ t₀ buf r s t = (t ≤ k) × ((length buf ≡
 abbrev μ-loop : tie.MeasureT-loop
 μ-loop n e k a buf₀ r₀ s₀ t₀ buf r s t = k - t
 
--- src/lib.rt:55:9
 start-requires : tie.Need-start-requires Inv-loop μ-loop
 start-requires c κs = to-start (c .before .pre .0) (c .before .pre .1 .0 .0 .holds) (need-upto (c .before .pre .0) (c .before .pre .1 .0 .0)) (c .before .pre .1 .1)
 
--- src/lib.rt:56:9
 same-length : tie.Need-same-length Inv-loop μ-loop
 same-length c = c .before .before .start .ensures .long
 
--- src/lib.rt:56:9
 returns : tie.Need-returns Inv-loop μ-loop
 returns c = say-no (λ w. c .before .before .start .ensures .no (not-true _ (c .if1 .taken)) (whole-mod w 2))
 
--- src/lib.rt:61:5
 loop-holds : tie.Need-loop-holds Inv-loop μ-loop
 loop-holds c = (omega arith, (c .before .before .start .ensures .long ∙ c .before .before .before .before .pre .1 .1, ((refl, (omega arith, omega arith)), holds-first (c .before .before .start .ensures .yes (not-false _ (c .if1 .left))))))
 
--- src/lib.rt:62:9
 step-requires : tie.Need-step-requires Inv-loop μ-loop
 step-requires c κs =
     let l = c .before .before in
@@ -57,15 +46,12 @@ step-requires c κs =
       base-s = λ e. omega arith;
     }
 
--- src/lib.rt:66:9
 add-t : tie.Need-add-t Inv-loop μ-loop
 add-t c = omega arith
 
--- src/lib.rt:61:5
 loop-less : tie.Need-loop-less Inv-loop μ-loop
 loop-less c = omega arith
 
--- src/lib.rt:61:5
 loop-again : tie.Need-loop-again Inv-loop μ-loop
 loop-again c =
     let l = c .before .before .before .before in
@@ -73,18 +59,15 @@ loop-again c =
     let q = c .before .step .ensures in
     (omega arith, (q .long ∙ v .1 .0, ((omega arith, (omega arith, omega arith)), rw add-one (holds-step (λ e. omega arith) (λ e. omega arith) (v .1 .1 .1) q))))
 
--- src/lib.rt:68:5
 vanishes-requires : tie.Need-vanishes-requires Inv-loop μ-loop
 vanishes-requires c κs =
     let l = c .before .before in
     let s = l .before .before .before .before .before in
     (s .pre .0 .order, in-buffer (l .loop .r) (s .pre .0 .order .upto) (omega arith) (l .loop .inv .1 .0))
 
--- src/lib.rt:49:1
 same-length-2 : tie.Need-same-length-2 Inv-loop μ-loop
 same-length-2 c = c .before .before .before .loop .inv .1 .0 ∙ sym (c .before .before .before .before .before .before .before .before .pre .1 .1)
 
--- src/lib.rt:49:1
 returns-2 : tie.Need-returns-2 Inv-loop μ-loop
 returns-2 c =
     let l = c .before .before .before in

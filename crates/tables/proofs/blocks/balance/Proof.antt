@@ -1,20 +1,14 @@
-use mathlib.Core.Path.{_≡_, refl, sym, ap, ap₂, _∙_}
-use Prim.Native.Nat.{ℕ, _+_, _*_, _-_, _^_, _≤_, _<_}
+use mathlib.Core.Path.{_≡_, _∙_}
+use Prim.Native.Nat.{_*_, _-_, _^_, _≤_}
 use native.Mathlib.Omega.{arith}
-use lib.IntN.{ℤ, pos, _+ℤ_, _-ℤ_, _*ℤ_}
-use lib.ListN.{length, getD}
-use lib.Signed.{shrZ}
-use Rattle.numbers.proofs.Machine.{rd, rd-is, rd-ok, rd-got}
-use Rattle.tables.specs.Tables.{_·⟨_⟩_, block, entries}
+use Rattle.numbers.proofs.Machine.{rd-ok}
+use Rattle.tables.specs.Tables.{block}
 use Rattle.tables.proofs.Wrote.{Wrote, wrote-none, wrote-more}
 use lib.Pow.{pow-pos}
 use Rattle.numbers.specs.Remainder.{rem}
-use Rattle.tables.proofs.Buffers.{square-small, flat, flat-block, put-of, low-flat, balance-gives}
+use Rattle.tables.proofs.Buffers.{square-small, flat, put-of, low-flat, balance-gives}
 use Rattle.tables.proofs.blocks.balance.Statement.{statement}
 use Rattle.tables.proofs.blocks.balance.Tie as tie
-use Rattle.tables.proofs.blocks.balance.Reads as reads
-use Rattle.tables.proofs.blocks.balance.Lts as lts
-use Rattle.numbers.proofs.rem_pow.Reads as rem-pow-reads
 
 abbrev Inv-loop : tie.InvT-loop
 Inv-loop n e buf₀ o m oa t₀ buf t = (t ≤ n * n) × Wrote (flat n (λ i j. rem (2 ^ e) (block n buf₀ o i j))) (o * (n * n)) t buf₀ buf

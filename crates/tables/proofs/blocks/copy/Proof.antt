@@ -1,18 +1,15 @@
-use mathlib.Core.Path.{_≡_, refl, sym, ap, ap₂, _∙_}
-use Prim.Native.Nat.{ℕ, _+_, _*_, _-_, _^_, _≤_, _<_}
+use mathlib.Core.Path.{_≡_, refl, _∙_}
+use Prim.Native.Nat.{ℕ, _+_, _-_, _≤_, _<_}
 use native.Mathlib.Omega.{arith}
-use lib.IntN.{ℤ, pos, natAbs, _+ℤ_, _-ℤ_, _*ℤ_}
-use lib.ListN.{length, getD}
-use Rattle.numbers.proofs.Machine.{rd, rd-is, rd-ok, rd-got}
+use lib.IntN.{pos}
+use lib.ListN.{getD, set, length-set}
+use Rattle.numbers.proofs.Machine.{rd, rd-ok}
 use mathlib.Core.Logic.{_≢_}
 use Rattle.tables.specs.Buffer.{Copied}
 use lib.Seq.{getD-set-same, getD-set-other}
-use lib.ListN.{set, length-set}
 use borrow.Author.Count.{below-more}
 use Rattle.tables.proofs.blocks.copy.Statement.{statement}
 use Rattle.tables.proofs.blocks.copy.Tie as tie
-use Rattle.tables.proofs.blocks.copy.Reads as reads
-use Rattle.tables.proofs.blocks.copy.Lts as lts
 
 abbrev Inv-loop : tie.InvT-loop
 Inv-loop m a buf₀ t₀ buf t = (t ≤ m) × Copied t a buf₀ buf

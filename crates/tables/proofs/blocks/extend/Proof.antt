@@ -1,19 +1,14 @@
-use mathlib.Core.Path.{_≡_, refl, sym, ap, ap₂, _∙_}
-use Prim.Native.Nat.{ℕ, _+_, _*_, _-_, _^_, _≤_, _<_}
+use mathlib.Core.Path.{_≡_, _∙_}
+use Prim.Native.Nat.{_+_, _*_, _-_, _^_, _≤_}
 use native.Mathlib.Omega.{arith}
-use lib.IntN.{ℤ, pos, natAbs, _+ℤ_, _-ℤ_, _*ℤ_}
-use lib.ListN.{length, getD}
-use Rattle.numbers.proofs.Machine.{rd, rd-is, rd-ok, rd-got}
-use Rattle.numbers.proofs.Sum.{δ}
-use Rattle.tables.specs.Tables.{_·⟨_⟩_, block, entries}
+use lib.IntN.{ℤ, pos, _+ℤ_, _*ℤ_}
+use lib.ListN.{getD}
+use Rattle.numbers.proofs.Machine.{rd, rd-ok, rd-got}
+use Rattle.tables.specs.Tables.{block}
 use Rattle.tables.proofs.Wrote.{Wrote, wrote-none, wrote-more}
 use Rattle.tables.proofs.Buffers.{square-small, flat, put-of, kept-at, extend-gives, extend-room}
 use Rattle.tables.proofs.blocks.extend.Statement.{statement}
 use Rattle.tables.proofs.blocks.extend.Tie as tie
-use Rattle.tables.proofs.blocks.extend.Reads as reads
-use Rattle.tables.proofs.blocks.extend.Lts as lts
-use Rattle.numbers.proofs.mac.Reads as mac-reads
-use Rattle.numbers.proofs.pow2.Reads as pow2-reads
 
 abbrev Inv-loop : tie.InvT-loop
 Inv-loop n e buf₀ c d m ca da x t₀ buf t = (t ≤ n * n) × Wrote (flat n (λ i j. block n buf₀ c i j +ℤ pos (2 ^ e) *ℤ block n buf₀ d i j)) (c * (n * n)) t buf₀ buf

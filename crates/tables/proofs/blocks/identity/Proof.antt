@@ -1,19 +1,13 @@
-use mathlib.Core.Path.{_≡_, refl, sym, ap, ap₂, _∙_}
-use Prim.Native.Nat.{ℕ, _+_, _*_, _-_, _^_, _≤_, _<_}
+use mathlib.Core.Path.{_≡_, sym, _∙_}
+use Prim.Native.Nat.{_+_, _*_, _-_, _≤_, _<_}
 use native.Mathlib.Omega.{arith}
-use lib.IntN.{ℤ, pos, natAbs, _+ℤ_, _-ℤ_, _*ℤ_}
 use borrow.Author.Needs.{needs}
-use lib.ListN.{length, getD}
-use Rattle.numbers.proofs.Machine.{rd, rd-is, rd-ok, rd-got}
+use Rattle.numbers.proofs.Machine.{rd-got}
 use Rattle.numbers.proofs.Sum.{δ}
-use Rattle.tables.specs.Tables.{_·⟨_⟩_, block, entries}
 use Rattle.tables.proofs.Wrote.{Wrote, wrote-none, wrote-more}
 use Rattle.tables.proofs.Buffers.{square-small, flat, flat-at, row-below, same-row, next-row, put-of}
 use Rattle.tables.proofs.blocks.identity.Statement.{statement}
 use Rattle.tables.proofs.blocks.identity.Tie as tie
-use Rattle.tables.proofs.blocks.identity.Reads as reads
-use Rattle.tables.proofs.blocks.identity.Lts as lts
-use Rattle.tables.proofs.blocks.unit.Reads as unit-reads
 
 abbrev Inv-loop : tie.InvT-loop
 Inv-loop n buf₀ o m oa t₀ i₀ j₀ buf t i j =

@@ -1,16 +1,12 @@
-use mathlib.Core.Path.{_≡_, refl, sym, _∙_}
-use Prim.Native.Nat.{ℕ, _+_, _*_, _-_, _≤_, _<_}
+use mathlib.Core.Path.{_≡_, _∙_}
+use Prim.Native.Nat.{_+_, _*_, _-_, _≤_, _<_}
 use native.Mathlib.Omega.{arith}
-use lib.ListN.{length}
-use Rattle.numbers.proofs.Machine.{rd-ok, rd-got}
+use Rattle.numbers.proofs.Machine.{rd-got}
 use Rattle.tables.specs.Tables.{_·⟨_⟩_, block}
 use Rattle.tables.proofs.Wrote.{Wrote, wrote-none, wrote-more}
 use Rattle.tables.proofs.Buffers.{square-small, flat, row-below, same-row, next-row, put-of, product-asks, product-gives}
 use Rattle.tables.proofs.blocks.product.Statement.{statement}
 use Rattle.tables.proofs.blocks.product.Tie as tie
-use Rattle.tables.proofs.blocks.product.Reads as reads
-use Rattle.tables.proofs.blocks.product.Lts as lts
-use Rattle.tables.proofs.blocks.dot.Reads as dot-reads
 
 abbrev Inv-loop : tie.InvT-loop
 Inv-loop n buf₀ p q o m pa qa oa t₀ i₀ j₀ buf t i j =

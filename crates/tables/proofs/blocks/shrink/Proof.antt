@@ -1,20 +1,15 @@
-use mathlib.Core.Path.{_≡_, refl, sym, ap, ap₂, _∙_}
-use Prim.Native.Nat.{ℕ, _+_, _*_, _-_, _^_, _≤_, _<_}
+use mathlib.Core.Path.{_≡_, sym, _∙_}
+use Prim.Native.Nat.{_+_, _*_, _-_, _^_, _≤_, _<_}
 use native.Mathlib.Omega.{arith}
-use lib.IntN.{ℤ, pos, _+ℤ_, _-ℤ_, _*ℤ_}
-use lib.ListN.{length, getD}
+use lib.IntN.{pos}
+use lib.ListN.{getD}
 use lib.Signed.{shrZ}
-use Rattle.numbers.proofs.Machine.{rd, rd-is, rd-ok, rd-got}
+use Rattle.numbers.proofs.Machine.{rd, rd-ok, rd-got}
 use Rattle.tables.specs.Tables.{_·⟨_⟩_, block, entries}
 use Rattle.tables.proofs.Wrote.{Wrote, wrote-none, wrote-more}
 use Rattle.tables.proofs.Buffers.{square-small, flat, flat-at, row-below, same-row, next-row, put-of, gap, shrink-asks, shrink-reads, shrink-sum, shrink-room}
 use Rattle.tables.proofs.blocks.shrink.Statement.{statement}
 use Rattle.tables.proofs.blocks.shrink.Tie as tie
-use Rattle.tables.proofs.blocks.shrink.Reads as reads
-use Rattle.tables.proofs.blocks.shrink.Lts as lts
-use Rattle.numbers.proofs.shr.Reads as shr-reads
-use Rattle.numbers.proofs.sub.Reads as sub-reads
-use Rattle.tables.proofs.blocks.dot.Reads as dot-reads
 
 abbrev Inv-loop : tie.InvT-loop
 Inv-loop n e a buf₀ m s size ma sa t₀ i₀ j₀ buf t i j =

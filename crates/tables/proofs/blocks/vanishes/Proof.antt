@@ -1,16 +1,14 @@
-use mathlib.Core.Path.{_≡_, refl, sym, ap, ap₂, _∙_}
-use Prim.Native.Nat.{ℕ, _+_, _*_, _-_, _^_, _≤_, _<_}
+use mathlib.Core.Path.{_≡_}
+use Prim.Native.Nat.{ℕ, _+_, _*_, _-_, _≤_, _<_}
 use native.Mathlib.Omega.{arith}
-use lib.IntN.{ℤ, pos, natAbs, _+ℤ_, _-ℤ_, _*ℤ_}
+use lib.IntN.{pos}
 use borrow.Author.Count.{below-more}
-use lib.ListN.{length, getD}
-use Rattle.numbers.proofs.Machine.{rd, rd-is, rd-ok, rd-got, bits-zero, zero-bits}
+use lib.ListN.{getD}
+use Rattle.numbers.proofs.Machine.{bits-zero, zero-bits}
 use Rattle.numbers.proofs.Says.{say-yes, say-no}
 use Rattle.tables.proofs.Buffers.{square-small, zero-of, zero-at}
 use Rattle.tables.proofs.blocks.vanishes.Statement.{statement}
 use Rattle.tables.proofs.blocks.vanishes.Tie as tie
-use Rattle.tables.proofs.blocks.vanishes.Reads as reads
-use Rattle.tables.proofs.blocks.vanishes.Lts as lts
 
 abbrev Inv-loop : tie.InvT-loop
 Inv-loop n buf o m oa t₀ t = (t ≤ n * n) × ((k : ℕ) → k < t → getD buf (o * (n * n) + k) (pos 0) ≡ pos 0)

@@ -2,18 +2,15 @@ use Rattle.tables.proofs.Answers.{low-of, low-at}
 use Rattle.numbers.proofs.Says.{say-yes, say-no}
 use Rattle.tables.proofs.Buffers.{square-small}
 use Rattle.numbers.proofs.Machine.{rd-ok}
-use lib.ListN.{length, getD}
+use lib.ListN.{getD}
 use lib.IntN.{pos, natAbs}
 use borrow.Author.Count.{below-more}
 use native.Mathlib.Nat.{not-suc-le-zero}
 use Prim.Native.Nat.{ℕ, _≤_, _<_, _-_, _+_, _*_}
-use mathlib.Core.Path.{_≡_, _∙_, ap}
+use mathlib.Core.Path.{_≡_}
 use native.Mathlib.Omega.{arith}
 use Rattle.tables.proofs.blocks.within.Statement.{statement}
 use Rattle.tables.proofs.blocks.within.Tie as tie
-use Rattle.tables.proofs.blocks.within.Reads as reads
-use Rattle.tables.proofs.blocks.within.Lts as lts
-use Rattle.numbers.proofs.mag.Reads as mag-reads
 
 abbrev Inv-loop : tie.InvT-loop
 Inv-loop n buf o c m oa t₀ t = (t ≤ n * n) × ((k : ℕ) → k < t → natAbs (getD buf (o * (n * n) + k) (pos 0)) ≤ c)
@@ -21,31 +18,24 @@ Inv-loop n buf o c m oa t₀ t = (t ≤ n * n) × ((k : ℕ) → k < t → natAb
 abbrev μ-loop : tie.MeasureT-loop
 μ-loop n buf o c m oa t₀ t = n * n - t
 
--- src/lib.rt:177:13
 mul-m : tie.Need-mul-m Inv-loop μ-loop
 mul-m c = omega (arith, square-small (c .pre .0 .upto))
 
--- src/lib.rt:178:14
 mul-oa : tie.Need-mul-oa Inv-loop μ-loop
 mul-oa c = omega arith
 
--- src/lib.rt:180:5
 loop-holds : tie.Need-loop-holds Inv-loop μ-loop
 loop-holds c = (omega arith, λ k h. absurd (not-suc-le-zero h))
 
--- src/lib.rt:181:33
 add-mag : tie.Need-add-mag Inv-loop μ-loop
 add-mag c = omega arith
 
--- src/lib.rt:181:29
 mul-mag : tie.Need-mul-mag Inv-loop μ-loop
 mul-mag c = omega arith
 
--- src/lib.rt:181:29
 shared-slice-copy-out-mag : tie.Need-shared-slice-copy-out-mag Inv-loop μ-loop
 shared-slice-copy-out-mag c = omega arith
 
--- src/lib.rt:181:16
 mag-requires : tie.Need-mag-requires Inv-loop μ-loop
 mag-requires c κs = tt
 
@@ -55,29 +45,24 @@ size c =
     let g = l .before .args in
     simp (rd-ok (getD (g .buf .now) (g .o * (g .n * g .n) + l .loop .t) (pos 0)) (c .before .mag-arg .given)) at (c .mag .ensures)
 
--- src/lib.rt:182:13
 returns : tie.Need-returns Inv-loop μ-loop
 returns c =
     let l = c .before .before .before .before in
     let g = l .before in
     say-no (λ f. let h = low-at (g .args .buf .now) (g .args .o) (l .loop .t) (g .pre .0) (c .before .before .before .loop-test .taken) f in let e = size (c .before) in omega arith)
 
--- src/lib.rt:184:9
 add-t : tie.Need-add-t Inv-loop μ-loop
 add-t c = omega arith
 
--- src/lib.rt:180:5
 loop-less : tie.Need-loop-less Inv-loop μ-loop
 loop-less c = omega arith
 
--- src/lib.rt:180:5
 loop-again : tie.Need-loop-again Inv-loop μ-loop
 loop-again c =
     let l = c .before .before .before .before in
     let g = l .before .args in
     (omega arith, below-more (λ (k : ℕ). natAbs (getD (g .buf .now) (g .o * (g .n * g .n) + k) (pos 0)) ≤ g .c) (l .loop .t) (l .loop .inv .1) (let e = size (c .before) in omega arith))
 
--- src/lib.rt:173:1
 returns-2 : tie.Need-returns-2 Inv-loop μ-loop
 returns-2 c =
     let s = c .before .before in

@@ -1,8 +1,8 @@
 -- Left by its label, the search stands at the first entry outside; run to its end, it has passed every entry.
-use mathlib.Core.Path.{_≡_, sym, ap, subst}
+use mathlib.Core.Path.{_≡_, sym, subst}
 use mathlib.Core.Logic.{⊎-elim}
 use mathlib.Core.List.{List}
-use Prim.Native.Nat.{ℕ, suc, _+_, _*_, _-_, _^_, _≤_, _<_}
+use Prim.Native.Nat.{ℕ, _+_, _*_, _-_, _^_, _≤_, _<_}
 use native.Mathlib.Nat.{suc-mul, add-zero, add-assoc, zero-mul, not-suc-le-zero, not-le-of-lt}
 use native.Mathlib.Numerals.{add-one}
 use native.Mathlib.Omega.{arith}
@@ -12,7 +12,7 @@ use borrow.Author.Tests.{not-true, not-false}
 use lib.Arith.{digits-lt}
 use lib.IntN.{ℤ, pos}
 use denote.Ref.{now}
-use lib.ListN.{length, getD}
+use lib.ListN.{getD}
 use lib.Signed.{mag}
 use Rattle.numbers.specs.Limits.{IsEntry}
 use Rattle.numbers.proofs.Machine.{rd, rd-ok}
