@@ -57,7 +57,8 @@ def must_fail_edits_are_refused_for_a_false_fact():
     edits = list(CRATES.glob("*/must-fail/*.edit"))
     assert len(logs) == len(edits), f"{len(logs)} logs of {len(edits)} edits: run `rt ci` first"
     for log in logs:
-        assert "that can be named from here" not in log.read_text(encoding="utf8", errors="replace"), log
+        first = next((l for l in log.read_text(encoding="utf8", errors="replace").splitlines() if ": error" in l), "")
+        assert "that can be named from here" not in first, f"{log}: {first}"
     return f"{len(edits)} edits"
 
 
