@@ -1,0 +1,104 @@
+use Rattle.sheets.proofs.Scan.{Going, going, went-value, went-stop, went-end}
+use borrow.Author.Needs.{needs}
+use lib.ListN.{length}
+use native.Mathlib.Omega.{arith}
+use Prim.Native.Nat.{ℕ, _-_}
+use mathlib.Core.Path.{_≡_, refl, sym, ap, _∙_}
+use Rattle.sheets.proofs.cursor.Cursor.number.Statement.{statement}
+use Rattle.sheets.proofs.cursor.Cursor.number.Tie as tie
+
+abbrev Inv-loop : tie.InvT-loop
+Inv-loop text form c₀ seen₀ at₀ c seen at = Going text form c₀ c seen at
+
+abbrev μ-loop : tie.MeasureT-loop
+μ-loop text form c₀ seen₀ at₀ c seen at = length text - at
+
+loop-holds : tie.Need-loop-holds Inv-loop μ-loop
+loop-holds c = record { here = refl; inside = c .before .pre .1; sane = c .before .pre .0; kept = tt; same = refl }
+
+shared-slice-read-b : tie.Need-shared-slice-read-b Inv-loop μ-loop
+shared-slice-read-b c = c .before .loop-test .taken
+
+after-requires : tie.Need-after-requires Inv-loop μ-loop
+after-requires c κs = (c .before .before .loop .inv .kept, c .before .before .before .before .pre .2)
+
+enum-known-s : tie.Need-enum-known-s Inv-loop μ-loop
+enum-known-s c = search needs
+
+past-requires : tie.Need-past-requires Inv-loop μ-loop
+past-requires c κs =
+    let l = c .before .before .before .before .before .before .loop in
+    let h = c .before .before .before .before .before .loop-test .taken in
+    (l .inv .sane, omega (arith, l .inv .here, c .before .before .before .before .before .before .before .before .good))
+
+add-at : tie.Need-add-at Inv-loop μ-loop
+add-at c = search needs
+
+loop-less : tie.Need-loop-less Inv-loop μ-loop
+loop-less c = omega (arith, c .before .before .before .before .before .before .loop-test .taken)
+
+loop-again : tie.Need-loop-again Inv-loop μ-loop
+loop-again c =
+    let l = c .before .before .before .before .before .before .before .loop in
+    let h = c .before .before .before .before .before .before .loop-test .taken in
+    let e = sym (c .before .before .before .before .after .ensures) ∙ c .before .before .s .given .1 in
+    rw (c .past .ensures) (going _ _ _ _ _ _ _ (l .inv) h e)
+
+enum-known-v : tie.Need-enum-known-v Inv-loop μ-loop
+enum-known-v c = search needs
+
+past-requires-2 : tie.Need-past-requires-2 Inv-loop μ-loop
+past-requires-2 c κs =
+    let l = c .before .before .before .before .before .before .loop in
+    let h = c .before .before .before .before .before .loop-test .taken in
+    (l .inv .sane, omega (arith, l .inv .here, c .before .before .before .before .before .before .before .before .good))
+
+returns : tie.Need-returns Inv-loop μ-loop
+returns c =
+    let l = c .before .before .before .before .before .before .before .loop in
+    let h = c .before .before .before .before .before .before .loop-test .taken in
+    let e = sym (c .before .before .before .before .after .ensures) ∙ c .before .before .v .given .1 in
+    rw (c .past2 .ensures)
+    (went-value _ _ _ _ _ _ _ (l .inv) (c .before .before .before .before .before .before .before .before .before .pre .2) h e)
+
+enum-told : tie.Need-enum-told Inv-loop μ-loop
+enum-told c = search needs
+
+place-requires : tie.Need-place-requires Inv-loop μ-loop
+place-requires c κs = tt
+
+returns-2 : tie.Need-returns-2 Inv-loop μ-loop
+returns-2 c =
+    let l = c .before .before .before .before .before .before .loop in
+    let h = c .before .before .before .before .before .loop-test .taken in
+    let e = sym (c .before .before .before .after .ensures) ∙ c .before .enum-told .given .1 in
+    rw (c .place .ensures) (went-stop _ _ _ _ _ _ (l .inv) h e)
+
+place-requires-2 : tie.Need-place-requires-2 Inv-loop μ-loop
+place-requires-2 c κs = tt
+
+returns-3 : tie.Need-returns-3 Inv-loop μ-loop
+returns-3 c = rw (c .place2 .ensures) (went-end _ _ _ _ _ _ (c .before .before .loop .inv) (c .before .loop-test .left))
+
+pub number-spec : {M : Type 1} → statement M
+number-spec =
+    tie.close
+    (tie.spec
+    Inv-loop
+    μ-loop
+    loop-holds
+    shared-slice-read-b
+    after-requires
+    enum-known-s
+    past-requires
+    add-at
+    loop-less
+    loop-again
+    enum-known-v
+    past-requires-2
+    returns
+    enum-told
+    place-requires
+    returns-2
+    place-requires-2
+    returns-3)
