@@ -3,11 +3,16 @@ ghost use mathlib.Core.Path.{_≡_};
 ghost use mathlib.Core.List.{[]};
 ghost use Prim.Native.Nat.{_≤_, _<_};
 ghost use lib.ListN.{length, drop};
-ghost use Rattle.sheets.specs.Model.{placeOf, moved, scan, Sane, Ready, Body, Entered, entryForm};
-ghost use Rattle.sheets.specs.Sheet.{closing};
+ghost use Rattle.sheets.specs.Model.{refusal, moved, scan, Sane, Ready, Body, Entered, closing, entryForm};
+use super::CELLS_MOST;
+use super::Place;
+use super::Reason;
+use super::number::Form;
+use super::number::Next;
+use super::number::Seen;
 
-use super::number::{Form, Next, Seen};
-use super::{Place, Reason};
+// The greatest magnitude of an entry, 2^20.
+const ENTRY_MOST: u64 = 1048576;
 
 // A place in a text.
 pub(crate) struct Cursor {
@@ -16,46 +21,39 @@ pub(crate) struct Cursor {
     pub(crate) offset: usize,
 }
 
+// What reading one number finds: the number and where the next begins, or what is wrong.
 pub(crate) enum Found {
     Number(i64, Cursor),
     Bad(Place),
 }
 
+// What reading all entries finds: where they end, or what is wrong.
 pub(crate) enum Rest {
     Whole(Cursor),
     Short(Place),
 }
 
 impl Cursor {
-    // Where the cursor stands, as a refusal.
-    pub(crate) fn place(self, reason: Reason) -> Place
-        ensures { λ r. ⌜ r ≡ placeOf self reason ⌝ }
+    // Reads the entries of a sheet of order n, row by row, into the table.
+    pub(crate) fn entries(self, text: &[u8], n: usize, table: &mut [i64; CELLS_MOST]) -> Rest
+        requires { ⌜ (Ready (now text) self (Body n [] Seen.Nothing)) × (length (now table) ≡ 1024) ⌝ }
+        ensures { λ r. ⌜ Entered (now (text .entry)) n r (now (table .exit)) ⌝ }
     {
-        Place {
-            line: self.line,
-            column: self.column,
-            reason,
-        }
-    }
-
-    // The cursor after the byte b.
-    pub(crate) fn past(self, b: u8) -> Cursor
-        requires { ⌜ (Sane self) × (self .offset < 9223372036854775808) ⌝ }
-        ensures { λ r. ⌜ r ≡ moved self b ⌝ }
-    {
-        if b == 10 {
-            Cursor {
-                line: self.line + 1,
-                column: 1,
-                offset: self.offset + 1,
-            }
-        } else {
-            Cursor {
-                line: self.line,
-                column: self.column + 1,
-                offset: self.offset + 1,
+        let mut c = self;
+        let mut p: usize = 0;
+        while p < n * n {
+            match c.number(text, entry_form(n, p)) {
+                Found::Number(v, d) => {
+                    table[p] = v;
+                    c = d;
+                    p += 1;
+                }
+                Found::Bad(q) => {
+                    return Rest::Short(q);
+                }
             }
         }
+        Rest::Whole(c)
     }
 
     // Reads one number and hands on where the next begins.
@@ -85,35 +83,36 @@ impl Cursor {
         Found::Bad(c.place(Reason::End))
     }
 
-    // The entries of a sheet of order n, row by row, into the table.
-    pub(crate) fn entries(self, text: &[u8], n: usize, table: &mut [i64; 1024]) -> Rest
-        requires { ⌜ (Ready (now text) self (Body n [] Seen.Nothing)) × (length (now table) ≡ 1024) ⌝ }
-        ensures { λ r. ⌜ Entered (now (text .entry)) n r (now (table .exit)) ⌝ }
+    // The place after the byte b: behind a line feed a new line begins.
+    pub(crate) fn past(self, b: u8) -> Cursor
+        requires { ⌜ (Sane self) × (self .offset < 9223372036854775808) ⌝ }
+        ensures { λ r. ⌜ r ≡ moved self b ⌝ }
     {
-        let mut c = self;
-        let mut p: usize = 0;
-        while p < n * n {
-            match c.number(text, entry_form(n, p)) {
-                Found::Number(v, d) => {
-                    table[p] = v;
-                    c = d;
-                    p += 1;
-                }
-                Found::Bad(q) => {
-                    return Rest::Short(q);
-                }
+        if b == b'\n' {
+            Cursor {
+                line: self.line + 1,
+                column: 1,
+                offset: self.offset + 1,
+            }
+        } else {
+            Cursor {
+                line: self.line,
+                column: self.column + 1,
+                offset: self.offset + 1,
             }
         }
-        Rest::Whole(c)
     }
-}
 
-// The byte after figure i (from 0) in lines of n.
-pub(crate) fn closing_byte(n: usize, i: usize) -> u8
-    requires { ⌜ (1 ≤ n) × (i < 9223372036854775808) ⌝ }
-    ensures { λ r. ⌜ r ≡ closing n i ⌝ }
-{
-    if (i + 1) % n == 0 { 10 } else { 32 }
+    // This place, with the reason why the text is no sheet from here on.
+    pub(crate) fn place(self, reason: Reason) -> Place
+        ensures { λ r. ⌜ r ≡ refusal self reason ⌝ }
+    {
+        Place {
+            line: self.line,
+            column: self.column,
+            reason,
+        }
+    }
 }
 
 // The form of entry i (from 0) of a sheet of order n.
@@ -123,8 +122,15 @@ fn entry_form(n: usize, i: usize) -> Form
 {
     Form {
         signed: true,
-        limit: 1048576,
+        limit: ENTRY_MOST,
         closing: closing_byte(n, i),
     }
 }
 
+// The byte after entry i (from 0): a line feed after the last of its line, else a space.
+fn closing_byte(n: usize, i: usize) -> u8
+    requires { ⌜ (1 ≤ n) × (i < 9223372036854775808) ⌝ }
+    ensures { λ r. ⌜ r ≡ closing n i ⌝ }
+{
+    if (i + 1) % n == 0 { b'\n' } else { b' ' }
+}

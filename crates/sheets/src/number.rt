@@ -3,7 +3,7 @@ ghost use mathlib.Core.Path.{_≡_};
 ghost use mathlib.Core.Bool.{cond};
 ghost use Prim.Native.Nat.{_≤_};
 ghost use lib.IntN.{pos, negℤ};
-ghost use Rattle.sheets.specs.Model.{grown, afterByte, afterNothing, afterMinus, afterPlain, afterLess, ifSigned, Kept};
+ghost use Rattle.sheets.specs.Model.{grown, afterByte, afterNothing, afterMinus, afterPlain, afterLess, ifSigned, Allowed};
 
 // What a number may be: with sign and zero or without both, its greatest magnitude, and the byte that closes it.
 pub(crate) struct Form {
@@ -20,26 +20,27 @@ pub(crate) enum Seen {
     Less(u64),
 }
 
-pub(crate) enum Grown {
-    To(u64),
-    Past,
-}
-
-// What one more byte makes of it.
+// What one more byte makes of it: more of a number, a whole one, or none.
 pub(crate) enum Next {
     Go(Seen),
     Value(i64),
     Stop,
 }
 
+// What one more byte makes of a magnitude.
+pub(crate) enum Grown {
+    To(u64),
+    Past,
+}
+
 impl Seen {
-    // What the byte b makes of it.
+    // What the byte b makes of what has been seen.
     pub(crate) fn after(self, b: u8, form: Form) -> Next
-        requires { ⌜ (Kept (form .limit) self) × (form .limit ≤ 1048576) ⌝ }
+        requires { ⌜ (Allowed form self) × (form .limit ≤ 1048576) ⌝ }
         ensures { λ r. ⌜ r ≡ afterByte form self b ⌝ }
     {
         match self {
-            Seen::Nothing => after_nothing(form.signed, b == 45, grow(0, b, form.limit)),
+            Seen::Nothing => after_nothing(form.signed, b == b'-', grow(0, b, form.limit)),
             Seen::Minus => after_minus(grow(0, b, form.limit)),
             Seen::Plain(m) => after_plain(m, b == form.closing, grow(m, b, form.limit)),
             Seen::Less(m) => after_less(m, b == form.closing, grow(m, b, form.limit)),
@@ -72,7 +73,7 @@ fn if_signed(signed: bool, s: Seen) -> Next
     if signed { Next::Go(s) } else { Next::Stop }
 }
 
-// The byte after the minus sign.
+// The byte after the minus sign: a digit, but not 0.
 fn after_minus(g: Grown) -> Next
     ensures { λ r. ⌜ r ≡ afterMinus g ⌝ }
 {
@@ -87,7 +88,7 @@ fn after_minus(g: Grown) -> Next
     }
 }
 
-// The byte after the digits of m.
+// The byte after the digits of m: after the digit 0 only the closing byte.
 fn after_plain(m: u64, closed: bool, g: Grown) -> Next
     requires { ⌜ m ≤ 1048576 ⌝ }
     ensures { λ r. ⌜ r ≡ afterPlain m closed g ⌝ }
@@ -123,23 +124,17 @@ fn grow(m: u64, b: u8, limit: u64) -> Grown
     requires { ⌜ (m ≤ limit) × (limit ≤ 1048576) ⌝ }
     ensures { λ r. ⌜ r ≡ grown limit m b ⌝ }
 {
-    if b < 48 {
+    if b < b'0' {
         return Grown::Past;
     }
-    if 57 < b {
+    if b'9' < b {
         return Grown::Past;
     }
-    let v = m * 10 + wide(b - 48);
+    let v = m * 10 + (b - b'0') as u64;
     if limit < v {
         return Grown::Past;
     }
     Grown::To(v)
-}
-
-fn wide(b: u8) -> u64
-    ensures { λ r. ⌜ r ≡ b ⌝ }
-{
-    b as u64
 }
 
 // The magnitude m with its sign.
@@ -150,4 +145,3 @@ fn signed(m: u64, negative: bool) -> i64
     let v = m as i64;
     if negative { 0 - v } else { v }
 }
-

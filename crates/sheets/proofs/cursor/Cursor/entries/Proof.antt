@@ -29,7 +29,7 @@ entry-form-requires : tie.Need-entry-form-requires Inv-loop μ-loop
 entry-form-requires c κs =
     let l = c .before .loop in
     let o = order _ _ _ _ _ (l .inv) in
-    (o .least, omega (arith, cells _ _ _ _ _ (l .inv), c .loop-test .taken))
+    (o .order .from, omega (arith, cells _ _ _ _ _ (l .inv), c .loop-test .taken))
 
 number-requires : tie.Need-number-requires Inv-loop μ-loop
 number-requires c κs =

@@ -14,13 +14,13 @@ abbrev μ-loop : tie.MeasureT-loop
 μ-loop text form c₀ seen₀ at₀ c seen at = length text - at
 
 loop-holds : tie.Need-loop-holds Inv-loop μ-loop
-loop-holds c = record { here = refl; inside = c .before .pre .1; sane = c .before .pre .0; kept = tt; same = refl }
+loop-holds c = record { here = refl; inside = c .before .pre .1; sane = c .before .pre .0; allowed = tt; same = refl }
 
 shared-slice-read-b : tie.Need-shared-slice-read-b Inv-loop μ-loop
 shared-slice-read-b c = c .before .loop-test .taken
 
 after-requires : tie.Need-after-requires Inv-loop μ-loop
-after-requires c κs = (c .before .before .loop .inv .kept, c .before .before .before .before .pre .2)
+after-requires c κs = (c .before .before .loop .inv .allowed, c .before .before .before .before .pre .2)
 
 enum-known-s : tie.Need-enum-known-s Inv-loop μ-loop
 enum-known-s c = search needs

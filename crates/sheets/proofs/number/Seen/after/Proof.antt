@@ -26,24 +26,24 @@ enum-known-self c = search needs
 
 grow-requires-3 : tie.Need-grow-requires-3
 grow-requires-3 c κs =
-    let h = rw (c .before .before .self .given .1) at (c .before .before .before .before .pre .0) in (h, c .before .before .before .before .pre .1)
+    let h = rw (c .before .before .self .given .1) at (c .before .before .before .before .pre .0) in (h .0, c .before .before .before .before .pre .1)
 
 after-plain-requires : tie.Need-after-plain-requires
 after-plain-requires c κs =
     let h = rw (c .before .before .before .self .given .1) at (c .before .before .before .before .before .pre .0) in
-    le-trans h (c .before .before .before .before .before .pre .1)
+    le-trans (h .0) (c .before .before .before .before .before .pre .1)
 
 enum-known-self-2 : tie.Need-enum-known-self-2
 enum-known-self-2 c = search needs
 
 grow-requires-4 : tie.Need-grow-requires-4
 grow-requires-4 c κs =
-    let h = rw (c .before .before .self2 .given .1) at (c .before .before .before .before .pre .0) in (h, c .before .before .before .before .pre .1)
+    let h = rw (c .before .before .self2 .given .1) at (c .before .before .before .before .pre .0) in (h .2, c .before .before .before .before .pre .1)
 
 after-less-requires : tie.Need-after-less-requires
 after-less-requires c κs =
     let h = rw (c .before .before .before .self2 .given .1) at (c .before .before .before .before .before .pre .0) in
-    le-trans h (c .before .before .before .before .before .pre .1)
+    le-trans (h .2) (c .before .before .before .before .before .pre .1)
 
 returns : tie.Need-returns
 returns c = simp (c .before .before .enum-told .given .1, c .after-nothing .ensures, c .before .grow .ensures)
