@@ -6,14 +6,15 @@ use Prim.Native.Nat.{ℕ, zero, suc, _+_, _*_, _-_, _≤_, _<_}
 use native.Mathlib.Nat.{zero-add}
 use native.Mathlib.Omega.{arith}
 use lib.Dec.{ltb}
-use lib.IntN.{ℤ, pos, negsuc, natAbs}
+use lib.IntN.{ℤ, pos, negsuc}
 use lib.ListN.{length, length-append, replicate, length-replicate}
 use borrow.Author.Tests.{ltb-true, ltb-false}
 use Rattle.numbers.specs.Limits.{IsOrder, IsEntry, Legal}
 use Rattle.sheets.specs.declared.number.Seen.{Seen}
 use Rattle.sheets.specs.declared.number.Seen.the-variants.{Nothing, Minus, Plain, Less}
 use Rattle.sheets.specs.Sheet.{decimal, figure, IsBeginning}
-use Rattle.sheets.specs.Model.{Allowed, closing, orderForm, entryForm, State, Head, Body, Dead}
+use Rattle.sheets.specs.Digits.{Allowed}
+use Rattle.sheets.specs.Model.{closing, orderForm, entryForm, State, Head, Body, Dead}
 use Rattle.sheets.proofs.Lines.{lines, lines-append, is-sheet}
 use Rattle.sheets.proofs.Numerals.{seenText}
 use Rattle.sheets.proofs.States.{legal-append, stateText, InBody, LegalState}

@@ -1,5 +1,5 @@
 -- Document 01's sheets tried by hand, and its report: computed from the definitions.
-use mathlib.Core.Path.{_≡_, refl, sym, ap, _∙_, subst}
+use mathlib.Core.Path.{_≡_, refl, subst}
 use mathlib.Core.List.{List, [], _∷_, _++_}
 use Prim.Native.Nat.{ℕ, suc, _*_, _<_}
 use Prim.Native.Char.{code}
@@ -11,7 +11,7 @@ use lib.ListN.{length, take}
 use Rattle.sheets.specs.declared.number.Seen.the-variants.{Nothing}
 use Rattle.sheets.specs.Sheet.{decimal, line, rows, IsSheet, IsBeginning}
 use Rattle.sheets.specs.Place.{lineAt, columnAt}
-use Rattle.sheets.specs.Answer.{NoSheet, byte, ended, ReadSays, refused}
+use Rattle.sheets.specs.Answer.{byte, ended, ReadSays, refused}
 use Rattle.sheets.specs.Model.{State, Head, Body, Dead, run}
 use Rattle.sheets.proofs.Exact.{beginning, no-beginning, head-open, body-open}
 

@@ -1,8 +1,8 @@
 -- How many bytes figures take: a figure below 10^(k+1) at most k + 2, and with the byte after it k + 3.
 --   Below k zs   every figure is below 10^(k+1)
-use mathlib.Core.Path.{_≡_, refl, sym, ap, _∙_, subst}
+use mathlib.Core.Path.{_≡_, refl, sym, ap, _∙_}
 use mathlib.Core.Bool.{Bool, true, false}
-use mathlib.Core.List.{List, [], _∷_, _++_}
+use mathlib.Core.List.{List, [], _∷_}
 use Prim.Native.Nat.{ℕ, zero, suc, _+_, _*_, _/_, _%_, _^_, _≤_, _<_}
 use native.Mathlib.Nat.{pow-suc, div-lt-iff-lt-mul, mul-suc, mul-add}
 use native.Mathlib.Omega.{arith}

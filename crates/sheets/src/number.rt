@@ -3,7 +3,7 @@ ghost use mathlib.Core.Path.{_≡_};
 ghost use mathlib.Core.Bool.{cond};
 ghost use Prim.Native.Nat.{_≤_};
 ghost use lib.IntN.{pos, negℤ};
-ghost use Rattle.sheets.specs.Model.{grown, afterByte, afterNothing, afterMinus, afterPlain, afterLess, ifSigned, Allowed};
+ghost use Rattle.sheets.specs.Digits.{grown, afterByte, afterNothing, afterMinus, afterPlain, afterLess, ifSigned, Allowed};
 
 // What a number may be: with sign and zero or without both, its greatest magnitude, and the byte that closes it.
 pub(crate) struct Form {

@@ -1,5 +1,4 @@
 use Rattle.numbers.proofs.Machine.{rd-got}
-use borrow.Author.Tests.{eq-eqb, ne-eqb}
 use borrow.Author.Needs.{needs}
 use Rattle.sheets.proofs.number.after_less.Statement.{statement}
 use Rattle.sheets.proofs.number.after_less.Tie as tie

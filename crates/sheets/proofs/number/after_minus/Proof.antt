@@ -1,4 +1,4 @@
-use borrow.Author.Tests.{eq-eqb, ne-eqb}
+use borrow.Author.Tests.{ne-eqb}
 use borrow.Author.Needs.{needs}
 use Rattle.sheets.proofs.number.after_minus.Statement.{statement}
 use Rattle.sheets.proofs.number.after_minus.Tie as tie

@@ -5,8 +5,8 @@ use lib.ListN.{take}
 use Rattle.sheets.proofs.Entries.{Reading, order, cells, turn, turn-bad}
 use Rattle.sheets.proofs.Turns.{ready-sane, ready-inside}
 use native.Mathlib.Omega.{arith}
-use Prim.Native.Nat.{ℕ, _+_, _*_, _-_, _≤_, _<_}
-use mathlib.Core.Path.{_≡_, refl, sym, ap, _∙_, subst}
+use Prim.Native.Nat.{ℕ, _*_, _-_}
+use mathlib.Core.Path.{_≡_, ap, subst}
 use borrow.Author.Needs.{needs}
 use Rattle.sheets.proofs.cursor.Cursor.entries.Statement.{statement}
 use Rattle.sheets.proofs.cursor.Cursor.entries.Tie as tie

@@ -2,8 +2,8 @@ use Rattle.sheets.proofs.Scan.{Going, going, went-value, went-stop, wen
 use borrow.Author.Needs.{needs}
 use lib.ListN.{length}
 use native.Mathlib.Omega.{arith}
-use Prim.Native.Nat.{ℕ, _-_}
-use mathlib.Core.Path.{_≡_, refl, sym, ap, _∙_}
+use Prim.Native.Nat.{_-_}
+use mathlib.Core.Path.{refl, sym, _∙_}
 use Rattle.sheets.proofs.cursor.Cursor.number.Statement.{statement}
 use Rattle.sheets.proofs.cursor.Cursor.number.Tie as tie
 
