@@ -1,13 +1,10 @@
-use Rattle.sheets.specs.Model.{Ready, Body}
-use Rattle.sheets.specs.declared.number.Seen.the-variants.{Nothing}
-use Rattle.sheets.specs.declared.number.Form.{Form}
-use lib.ListN.{take}
-use Rattle.sheets.proofs.Entries.{Reading, order, cells, turn, turn-bad}
-use Rattle.sheets.proofs.Turns.{ready-sane, ready-inside}
+use mathlib.Core.Path.{_≡_, ap}
+use Prim.Native.Nat.{_*_, _-_}
 use native.Mathlib.Omega.{arith}
-use Prim.Native.Nat.{ℕ, _*_, _-_}
-use mathlib.Core.Path.{_≡_, ap, subst}
 use borrow.Author.Needs.{needs}
+use Rattle.sheets.specs.declared.number.Form.{Form}
+use Rattle.sheets.proofs.Entries.{Reading, reading-order, reading-cells, reading-done, reading-next, reading-bad}
+use Rattle.sheets.proofs.Turns.{ready-sane, ready-inside}
 use Rattle.sheets.proofs.cursor.Cursor.entries.Statement.{statement}
 use Rattle.sheets.proofs.cursor.Cursor.entries.Tie as tie
 
@@ -21,68 +18,45 @@ loop-holds : tie.Need-loop-holds Inv-loop μ-loop
 loop-holds c = record { ready = c .before .pre .0; count = omega arith; size = c .before .pre .1 }
 
 mul-loop : tie.Need-mul-loop Inv-loop μ-loop
-mul-loop c =
-    let l = c .loop in
-    omega (arith, cells _ _ _ _ _ (l .inv))
+mul-loop c = omega (arith, reading-cells (c .loop .inv))
 
 entry-form-requires : tie.Need-entry-form-requires Inv-loop μ-loop
-entry-form-requires c κs =
-    let l = c .before .loop in
-    let o = order _ _ _ _ _ (l .inv) in
-    (o .order .from, omega (arith, cells _ _ _ _ _ (l .inv), c .loop-test .taken))
+entry-form-requires c κs = let l = c .before .loop in (reading-order (l .inv), omega (arith, reading-cells (l .inv), c .loop-test .taken))
 
 number-requires : tie.Need-number-requires Inv-loop μ-loop
 number-requires c κs =
-    let l = c .before .before .loop in
+    let r = c .before .before .loop .inv .ready in
     let e : c .entry-form .result .limit ≡ 1048576 = ap (λ (f : Form). f .limit) (c .entry-form .ensures) in
-    (ready-sane _ _ _ (l .inv .ready), ready-inside _ _ _ (l .inv .ready), omega arith)
+    (ready-sane r, ready-inside r, omega arith)
 
 enum-known-v : tie.Need-enum-known-v Inv-loop μ-loop
 enum-known-v c = search needs
 
 mul-v : tie.Need-mul-v Inv-loop μ-loop
-mul-v c =
-    let l = c .before .before .before .before .before .before .loop in
-    omega (arith, cells _ _ _ _ _ (l .inv), c .before .before .before .before .before .loop-test .taken)
+mul-v c = omega (arith, reading-cells (c .before .before .before .before .before .before .loop .inv), c .before .before .before .before .before .loop-test .taken)
 
 element-set-from-v : tie.Need-element-set-from-v Inv-loop μ-loop
-element-set-from-v c =
-    let l = c .before .before .before .before .before .before .loop in
-    omega (arith, cells _ _ _ _ _ (l .inv), c .before .before .before .before .before .loop-test .taken)
+element-set-from-v c = omega (arith, reading-cells (c .before .before .before .before .before .before .loop .inv), c .before .before .before .before .before .loop-test .taken)
 
 add-p : tie.Need-add-p Inv-loop μ-loop
-add-p c =
-    let l = c .before .before .before .before .before .before .loop in
-    omega (arith, cells _ _ _ _ _ (l .inv), c .before .before .before .before .before .loop-test .taken)
+add-p c = omega (arith, reading-cells (c .before .before .before .before .before .before .loop .inv), c .before .before .before .before .before .loop-test .taken)
 
 loop-less : tie.Need-loop-less Inv-loop μ-loop
 loop-less c = omega (arith, c .before .before .before .before .before .loop-test .taken)
 
 loop-again : tie.Need-loop-again Inv-loop μ-loop
 loop-again c =
-    let l = c .before .before .before .before .before .before .loop in
-    turn _ _ _ _ _ (l .inv) (c .before .before .before .before .before .loop-test .taken) _ _ _ _
-    (c .before .before .before .before .entry-form .ensures)
-    (c .before .before .before .number .ensures)
-    (c .before .v .given .1)
+    reading-next (c .before .before .before .before .before .before .loop .inv) (c .before .before .before .before .before .loop-test .taken) (c .before .before .before .before .entry-form .ensures) (c .before .before .before .number .ensures) (c .before .v .given .1)
 
 enum-known-q : tie.Need-enum-known-q Inv-loop μ-loop
 enum-known-q c = search needs
 
 returns : tie.Need-returns Inv-loop μ-loop
 returns c =
-    let l = c .before .before .before .before .before .before .loop in
-    turn-bad _ _ _ _ _ (l .inv) (c .before .before .before .before .before .loop-test .taken) _ _ _
-    (c .before .before .before .before .entry-form .ensures)
-    (c .before .before .before .number .ensures)
-    (c .before .q .given .1)
+    reading-bad (c .before .before .before .before .before .before .loop .inv) (c .before .before .before .before .before .loop-test .taken) (c .before .before .before .before .entry-form .ensures) (c .before .before .before .number .ensures) (c .before .q .given .1)
 
 returns-2 : tie.Need-returns-2 Inv-loop μ-loop
-returns-2 c =
-    let l = c .before .loop in
-    let a = c .before .before .before .args in
-    let e : l .p ≡ a .n * a .n = omega (arith, c .loop-test .left, l .inv .count) in
-    (subst (λ (k : ℕ). Ready (a .text .now) (l .c) (Body (a .n) (take k (l .table)) Nothing)) e (l .inv .ready), l .inv .size)
+returns-2 c = reading-done (c .before .loop .inv) (c .loop-test .left)
 
 pub entries-spec : {M : Type 1} → statement M
 entries-spec =

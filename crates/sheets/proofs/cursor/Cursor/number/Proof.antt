@@ -1,4 +1,4 @@
-use Rattle.sheets.proofs.Scan.{Going, going, went-value, went-stop, went-end}
+use Rattle.sheets.proofs.Scan.{Going, going-end, going-past, going-on, going-value, going-stop}
 use borrow.Author.Needs.{needs}
 use lib.ListN.{length}
 use native.Mathlib.Omega.{arith}
@@ -27,9 +27,8 @@ enum-known-s c = search needs
 
 past-requires : tie.Need-past-requires Inv-loop μ-loop
 past-requires c κs =
-    let l = c .before .before .before .before .before .before .loop in
-    let h = c .before .before .before .before .before .loop-test .taken in
-    (l .inv .sane, omega (arith, l .inv .here, c .before .before .before .before .before .before .before .before .good))
+    going-past (c .before .before .before .before .before .before .loop .inv) (c .before .before .before .before .before .loop-test .taken)
+    (omega (arith, c .before .before .before .before .before .before .before .before .good))
 
 add-at : tie.Need-add-at Inv-loop μ-loop
 add-at c = search needs
@@ -39,27 +38,23 @@ loop-less c = omega (arith, c .before .before .before .before .before .before .l
 
 loop-again : tie.Need-loop-again Inv-loop μ-loop
 loop-again c =
-    let l = c .before .before .before .before .before .before .before .loop in
-    let h = c .before .before .before .before .before .before .loop-test .taken in
-    let e = sym (c .before .before .before .before .after .ensures) ∙ c .before .before .s .given .1 in
-    rw (c .past .ensures) (going _ _ _ _ _ _ _ (l .inv) h e)
+    rw (c .past .ensures)
+    (going-on (c .before .before .before .before .before .before .before .loop .inv) (c .before .before .before .before .before .before .loop-test .taken)
+    (sym (c .before .before .before .before .after .ensures) ∙ c .before .before .s .given .1))
 
 enum-known-v : tie.Need-enum-known-v Inv-loop μ-loop
 enum-known-v c = search needs
 
 past-requires-2 : tie.Need-past-requires-2 Inv-loop μ-loop
 past-requires-2 c κs =
-    let l = c .before .before .before .before .before .before .loop in
-    let h = c .before .before .before .before .before .loop-test .taken in
-    (l .inv .sane, omega (arith, l .inv .here, c .before .before .before .before .before .before .before .before .good))
+    going-past (c .before .before .before .before .before .before .loop .inv) (c .before .before .before .before .before .loop-test .taken)
+    (omega (arith, c .before .before .before .before .before .before .before .before .good))
 
 returns : tie.Need-returns Inv-loop μ-loop
 returns c =
-    let l = c .before .before .before .before .before .before .before .loop in
-    let h = c .before .before .before .before .before .before .loop-test .taken in
-    let e = sym (c .before .before .before .before .after .ensures) ∙ c .before .before .v .given .1 in
     rw (c .past2 .ensures)
-    (went-value _ _ _ _ _ _ _ (l .inv) (c .before .before .before .before .before .before .before .before .before .pre .2) h e)
+    (going-value (c .before .before .before .before .before .before .before .loop .inv) (c .before .before .before .before .before .before .loop-test .taken)
+    (c .before .before .before .before .before .before .before .before .before .pre .2) (sym (c .before .before .before .before .after .ensures) ∙ c .before .before .v .given .1))
 
 enum-told : tie.Need-enum-told Inv-loop μ-loop
 enum-told c = search needs
@@ -69,16 +64,15 @@ place-requires c κs = tt
 
 returns-2 : tie.Need-returns-2 Inv-loop μ-loop
 returns-2 c =
-    let l = c .before .before .before .before .before .before .loop in
-    let h = c .before .before .before .before .before .loop-test .taken in
-    let e = sym (c .before .before .before .after .ensures) ∙ c .before .enum-told .given .1 in
-    rw (c .place .ensures) (went-stop _ _ _ _ _ _ (l .inv) h e)
+    rw (c .place .ensures)
+    (going-stop (c .before .before .before .before .before .before .loop .inv) (c .before .before .before .before .before .loop-test .taken)
+    (sym (c .before .before .before .after .ensures) ∙ c .before .enum-told .given .1))
 
 place-requires-2 : tie.Need-place-requires-2 Inv-loop μ-loop
 place-requires-2 c κs = tt
 
 returns-3 : tie.Need-returns-3 Inv-loop μ-loop
-returns-3 c = rw (c .place2 .ensures) (went-end _ _ _ _ _ _ (c .before .before .loop .inv) (c .before .loop-test .left))
+returns-3 c = rw (c .place2 .ensures) (going-end (c .before .before .loop .inv) (c .before .loop-test .left))
 
 pub number-spec : {M : Type 1} → statement M
 number-spec =
