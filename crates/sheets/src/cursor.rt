@@ -66,14 +66,15 @@ impl Cursor {
         let mut at = self.offset;
         while at < text.len() {
             let b = text[at];
+            let next = c.past(b);
             match seen.after(b, form) {
                 Next::Go(s) => {
                     seen = s;
-                    c = c.past(b);
+                    c = next;
                     at += 1;
                 }
                 Next::Value(v) => {
-                    return Found::Number(v, c.past(b));
+                    return Found::Number(v, next);
                 }
                 Next::Stop => {
                     return Found::Bad(c.place(Reason::Byte));

@@ -1,9 +1,9 @@
-use Rattle.sheets.proofs.Scan.{Going, going-end, going-past, going-on, going-value, going-stop}
-use borrow.Author.Needs.{needs}
-use lib.ListN.{length}
-use native.Mathlib.Omega.{arith}
-use Prim.Native.Nat.{_-_}
 use mathlib.Core.Path.{refl, sym, _∙_}
+use Prim.Native.Nat.{_-_}
+use native.Mathlib.Omega.{arith}
+use lib.ListN.{length}
+use borrow.Author.Needs.{needs}
+use Rattle.sheets.proofs.Scan.{Going, going-end, going-past, going-on, going-value, going-stop}
 use Rattle.sheets.proofs.cursor.Cursor.number.Statement.{statement}
 use Rattle.sheets.proofs.cursor.Cursor.number.Tie as tie
 
@@ -19,16 +19,14 @@ loop-holds c = record { here = refl; inside = c .before .pre .1; sane = c .befor
 shared-slice-read-b : tie.Need-shared-slice-read-b Inv-loop μ-loop
 shared-slice-read-b c = c .before .loop-test .taken
 
+past-requires : tie.Need-past-requires Inv-loop μ-loop
+past-requires c κs = going-past (c .before .before .loop .inv) (c .before .loop-test .taken) (omega (arith, c .before .before .before .before .good))
+
 after-requires : tie.Need-after-requires Inv-loop μ-loop
-after-requires c κs = (c .before .before .loop .inv .allowed, c .before .before .before .before .pre .2)
+after-requires c κs = (c .before .before .before .loop .inv .allowed, c .before .before .before .before .before .pre .2)
 
 enum-known-s : tie.Need-enum-known-s Inv-loop μ-loop
 enum-known-s c = search needs
-
-past-requires : tie.Need-past-requires Inv-loop μ-loop
-past-requires c κs =
-    going-past (c .before .before .before .before .before .before .loop .inv) (c .before .before .before .before .before .loop-test .taken)
-    (omega (arith, c .before .before .before .before .before .before .before .before .good))
 
 add-at : tie.Need-add-at Inv-loop μ-loop
 add-at c = search needs
@@ -38,23 +36,16 @@ loop-less c = omega (arith, c .before .before .before .before .before .before .l
 
 loop-again : tie.Need-loop-again Inv-loop μ-loop
 loop-again c =
-    rw (c .past .ensures)
-    (going-on (c .before .before .before .before .before .before .before .loop .inv) (c .before .before .before .before .before .before .loop-test .taken)
-    (sym (c .before .before .before .before .after .ensures) ∙ c .before .before .s .given .1))
+    rw (c .before .before .before .before .past .ensures)
+    (going-on (c .before .before .before .before .before .before .before .loop .inv) (c .before .before .before .before .before .before .loop-test .taken) (sym (c .before .before .before .after .ensures) ∙ c .before .s .given .1))
 
 enum-known-v : tie.Need-enum-known-v Inv-loop μ-loop
 enum-known-v c = search needs
 
-past-requires-2 : tie.Need-past-requires-2 Inv-loop μ-loop
-past-requires-2 c κs =
-    going-past (c .before .before .before .before .before .before .loop .inv) (c .before .before .before .before .before .loop-test .taken)
-    (omega (arith, c .before .before .before .before .before .before .before .before .good))
-
 returns : tie.Need-returns Inv-loop μ-loop
 returns c =
-    rw (c .past2 .ensures)
-    (going-value (c .before .before .before .before .before .before .before .loop .inv) (c .before .before .before .before .before .before .loop-test .taken)
-    (c .before .before .before .before .before .before .before .before .before .pre .2) (sym (c .before .before .before .before .after .ensures) ∙ c .before .before .v .given .1))
+    rw (c .before .before .before .before .past .ensures)
+    (going-value (c .before .before .before .before .before .before .before .loop .inv) (c .before .before .before .before .before .before .loop-test .taken) (c .before .before .before .before .before .before .before .before .before .pre .2) (sym (c .before .before .before .after .ensures) ∙ c .before .v .given .1))
 
 enum-told : tie.Need-enum-told Inv-loop μ-loop
 enum-told c = search needs
@@ -65,8 +56,7 @@ place-requires c κs = tt
 returns-2 : tie.Need-returns-2 Inv-loop μ-loop
 returns-2 c =
     rw (c .place .ensures)
-    (going-stop (c .before .before .before .before .before .before .loop .inv) (c .before .before .before .before .before .loop-test .taken)
-    (sym (c .before .before .before .after .ensures) ∙ c .before .enum-told .given .1))
+    (going-stop (c .before .before .before .before .before .before .before .loop .inv) (c .before .before .before .before .before .before .loop-test .taken) (sym (c .before .before .before .after .ensures) ∙ c .before .enum-told .given .1))
 
 place-requires-2 : tie.Need-place-requires-2 Inv-loop μ-loop
 place-requires-2 c κs = tt
@@ -82,14 +72,13 @@ number-spec =
     μ-loop
     loop-holds
     shared-slice-read-b
+    past-requires
     after-requires
     enum-known-s
-    past-requires
     add-at
     loop-less
     loop-again
     enum-known-v
-    past-requires-2
     returns
     enum-told
     place-requires
