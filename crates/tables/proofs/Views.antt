@@ -1,12 +1,12 @@
 -- Views: the stretch is one place and one list, and so is what `row` hands back.
-use mathlib.Core.Path.{_≡_, sym, ap, _∙_}
+use mathlib.Core.Path.{_≡_, sym, _∙_}
 use mathlib.Core.List.{List}
 use Prim.Native.Nat.{ℕ, _+_, _*_, _≤_}
-use native.Mathlib.Nat.{add-zero, suc-mul, mul-le-mul-right}
+use native.Mathlib.Nat.{suc-mul, mul-le-mul-right}
 use native.Mathlib.Decide.{ℕ-discrete, decLt, decLe}
 use native.Mathlib.Omega.{arith}
 use lib.IntN.{ℤ}
-use lib.ListN.{length, take}
+use lib.ListN.{length}
 use denote.Ref.{RefT, ptr, now}
 use Rattle.numbers.specs.Limits.{IsOrder}
 use Rattle.tables.specs.Views.{Stretch, HasRow, RowGives}
@@ -23,9 +23,6 @@ pub record Same (r s : RefT (List ℤ)) : Type 0 where
 pub stretch-unique : {t r s : RefT (List ℤ)} {start size : ℕ} → Stretch t r start size → Stretch t s start size → Same r s
 stretch-unique p q = record { memory = p .memory ∙ sym (q .memory); place = p .place ∙ sym (q .place); list = p .list ∙ sym (q .list) }
 
-pub stretch-empty : {t r : RefT (List ℤ)} → ptr r ≡ ptr t → now r ≡ take 0 (now t) → Stretch t r 0 0
-stretch-empty {t} p l = record { memory = ap (λ x. x .0) p; place = ap (λ x. x .1) p ∙ sym (add-zero (ptr t .1)); list = l }
-
 -- ---- row
 
 pub row-fits : {n size i : ℕ} → HasRow n size i → (i * n + n ≤ size) × (size ≤ 1024)
@@ -39,8 +36,8 @@ module _ {n i : ℕ} {t r : RefT (List ℤ)} where
   pub row-there : HasRow n (length (now t)) i → Stretch t r (i * n) n → RowGives n t i r
   row-there h s = record { there = λ g. s; none = λ f. absurd (f h) }
 
-  pub row-none : ¬ HasRow n (length (now t)) i → ptr r ≡ ptr t → now r ≡ take 0 (now t) → RowGives n t i r
-  row-none f p l = record { there = λ h. absurd (f h); none = λ g. stretch-empty p l }
+  pub row-none : ¬ HasRow n (length (now t)) i → Stretch t r 0 0 → RowGives n t i r
+  row-none f s = record { there = λ h. absurd (f h); none = λ g. s }
 
 -- ---- what `row` hands back is one
 

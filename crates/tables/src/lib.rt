@@ -1,6 +1,8 @@
 // Square tables of whole numbers: the view of a row, the checks of a lent table, and the work on tables in a buffer.
+ghost use Prim.Native.Nat.{_+_, _≤_};
+ghost use lib.ListN.{length};
 ghost use Rattle.numbers.specs.Says.{Tells};
-ghost use Rattle.tables.specs.Views.{HasRow, RowGives};
+ghost use Rattle.tables.specs.Views.{Stretch, HasRow, RowGives};
 
 pub mod blocks;
 pub mod checks;
@@ -11,12 +13,19 @@ pub fn row(n: usize, table: &[i64], i: usize) -> &[i64]
     ensures { λ r. ⌜ RowGives n (table .entry) i r ⌝ }
 {
     if has_row(n, table.len(), i) {
-        let p = i * n;
-        let q = p + n;
-        &table[p..q]
+        part(table, i * n, n)
     } else {
-        &table[..0]
+        part(table, 0, 0)
     }
+}
+
+// The part of a buffer of `size` numbers from number `start` on, in the buffer's own memory.
+pub fn part(t: &[i64], start: usize, size: usize) -> &[i64]
+    requires { ⌜ start + size ≤ length (now t) ⌝ }
+    ensures { λ r. ⌜ Stretch (t .entry) r start size ⌝ }
+{
+    let end = start + size;
+    &t[start..end]
 }
 
 // Whether a table of `size` numbers has a row i at order n.
