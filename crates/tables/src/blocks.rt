@@ -8,8 +8,8 @@ ghost use Rattle.numbers.specs.Numbers.{δ};
 ghost use Rattle.numbers.specs.Limits.{IsOrder};
 ghost use Rattle.numbers.specs.Remainder.{rem};
 ghost use Rattle.numbers.specs.Says.{Tells};
-ghost use Rattle.tables.specs.Tables.{_·⟨_⟩_, _≈⟨_⟩_, entries, block};
-ghost use Rattle.tables.specs.Buffer.{tableAt, Low, Has, Dot, Product, Shrink, Put, Balance, Extend, Copied};
+ghost use Rattle.tables.specs.Tables.{_·⟨_⟩_, _≈⟨_⟩_, entries, block, tableAt};
+ghost use Rattle.tables.specs.Buffer.{Low, Has, Dot, Product, Shrink, Put, Balance, Extend, Copied};
 
 // entry (i, k) of the table at place p
 fn cell(n: usize, a: &[i64], p: usize, i: usize, k: usize) -> i64
