@@ -164,11 +164,9 @@ pub fn block(n: usize, lifts: usize, expansion: &[i64], j: usize) -> &[i64]
 {
     if has_block(n, lifts, expansion.len(), j) {
         let m = n * n;
-        let p = j * m;
-        let q = p + m;
-        &expansion[p..q]
+        tables::part(expansion, j * m, m)
     } else {
-        &expansion[..0]
+        tables::part(expansion, 0, 0)
     }
 }
 
