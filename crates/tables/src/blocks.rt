@@ -1,3 +1,4 @@
+// The kernels: work on tables of order n in one buffer, each named by its block number.
 ghost use mathlib.Core.Path.{_≡_};
 ghost use mathlib.Core.Bool.{true, false};
 ghost use Prim.Native.Nat.{ℕ, _+_, _*_, _-_, _^_, _≤_, _<_};
@@ -11,29 +12,7 @@ ghost use Rattle.numbers.specs.Says.{Tells};
 ghost use Rattle.tables.specs.Tables.{_·⟨_⟩_, _≈⟨_⟩_, entries, block, tableAt};
 ghost use Rattle.tables.specs.Buffer.{Low, Has, Dot, Product, Shrink, Put, Balance, Extend, Copied};
 
-// entry (i, k) of the table at place p
-fn cell(n: usize, a: &[i64], p: usize, i: usize, k: usize) -> i64
-    requires { ⌜ (n ≤ 32) × ((i < n) × ((k < n) × (p + n * n ≤ length (now a)))) ⌝ }
-    ensures { λ r. ⌜ r ≡ getD (now (a .entry)) (p + (i * n + k)) (pos 0) ⌝ }
-{
-    a[p + (i * n + k)]
-}
-
-// entry (i, j) of the product of the tables at places p and q
-pub fn dot(n: usize, a: &[i64], p: usize, b: &[i64], q: usize, i: usize, j: usize) -> i64
-    requires { ⌜ Dot n (now a) p (now b) q i j ⌝ }
-    ensures { λ r. ⌜ r ≡ (tableAt n (now (a .entry)) p ·⟨ n ⟩ tableAt n (now (b .entry)) q) i j ⌝ }
-{
-    let mut s: i64 = 0;
-    let mut k: usize = 0;
-    while k < n {
-        s = numbers::mac(s, cell(n, a, p, i, k), cell(n, b, q, k, j));
-        k += 1;
-    }
-    s
-}
-
-// block o becomes the product of blocks p and q
+// Block o becomes the product of blocks p and q.
 pub fn product(n: usize, buf: &mut [i64], p: usize, q: usize, o: usize)
     requires { ⌜ Product n (now buf) p q o ⌝ }
     ensures { λ _. ⌜ Put n (block n (now (buf .entry)) p ·⟨ n ⟩ block n (now (buf .entry)) q) o (now (buf .entry)) (now (buf .exit)) ⌝ }
@@ -57,7 +36,7 @@ pub fn product(n: usize, buf: &mut [i64], p: usize, q: usize, o: usize)
     }
 }
 
-// block s, less a times block m, divided by 2^e, rounded down
+// Block s becomes itself less a times block m, divided by 2^e and rounded down.
 pub fn shrink(n: usize, e: u32, a: &[i64], buf: &mut [i64], m: usize, s: usize)
     requires { ⌜ Shrink n e (now a) (now buf) m s ⌝ }
     ensures { λ _. ⌜ Put n (λ (i j : ℕ). shrZ (block n (now (buf .entry)) s i j -ℤ (entries n (now (a .entry)) ·⟨ n ⟩ block n (now (buf .entry)) m) i j) (2 ^ e)) s (now (buf .entry)) (now (buf .exit)) ⌝ }
@@ -81,7 +60,7 @@ pub fn shrink(n: usize, e: u32, a: &[i64], buf: &mut [i64], m: usize, s: usize)
     }
 }
 
-// block o becomes its balanced remainder by 2^e
+// Block o becomes its balanced remainder by 2^e.
 pub fn balance(n: usize, e: u32, buf: &mut [i64], o: usize)
     requires { ⌜ Balance n e (now buf) o ⌝ }
     ensures { λ _. ⌜ Put n (λ (i j : ℕ). rem (2 ^ e) (block n (now (buf .entry)) o i j)) o (now (buf .entry)) (now (buf .exit)) ⌝ }
@@ -96,7 +75,7 @@ pub fn balance(n: usize, e: u32, buf: &mut [i64], o: usize)
     }
 }
 
-// 2^e times block d is added to block c
+// 2^e times block d is added to block c.
 pub fn extend(n: usize, e: u32, buf: &mut [i64], c: usize, d: usize)
     requires { ⌜ Extend n e (now buf) c d ⌝ }
     ensures { λ _. ⌜ Put n (λ (i j : ℕ). block n (now (buf .entry)) c i j +ℤ pos (2 ^ e) *ℤ block n (now (buf .entry)) d i j) c (now (buf .entry)) (now (buf .exit)) ⌝ }
@@ -113,14 +92,7 @@ pub fn extend(n: usize, e: u32, buf: &mut [i64], c: usize, d: usize)
     }
 }
 
-// 1 on the diagonal, 0 elsewhere
-fn unit(i: usize, j: usize) -> i64
-    ensures { λ r. ⌜ r ≡ δ i j ⌝ }
-{
-    if i == j { 1 } else { 0 }
-}
-
-// block o becomes the identity
+// Block o becomes the identity.
 pub fn identity(n: usize, buf: &mut [i64], o: usize)
     requires { ⌜ (IsOrder n) × (Has n (now buf) o) ⌝ }
     ensures { λ _. ⌜ Put n δ o (now (buf .entry)) (now (buf .exit)) ⌝ }
@@ -141,7 +113,19 @@ pub fn identity(n: usize, buf: &mut [i64], o: usize)
     }
 }
 
-// whether block o is all zero
+// The first m numbers of a, to the front of the buffer.
+pub fn copy(m: usize, a: &[i64], buf: &mut [i64])
+    requires { ⌜ (m ≤ length (now a)) × (m ≤ length (now buf)) ⌝ }
+    ensures { λ _. ⌜ Copied m (now (a .entry)) (now (buf .entry)) (now (buf .exit)) ⌝ }
+{
+    let mut t: usize = 0;
+    while t < m {
+        buf[t] = a[t];
+        t += 1;
+    }
+}
+
+// Whether block o is all zero.
 pub fn vanishes(n: usize, buf: &[i64], o: usize) -> bool
     requires { ⌜ (IsOrder n) × (Has n (now buf) o) ⌝ }
     ensures { λ r. ⌜ Tells (block n (now (buf .entry)) o ≈⟨ n ⟩ (λ (i j : ℕ). pos 0)) r ⌝ }
@@ -158,19 +142,7 @@ pub fn vanishes(n: usize, buf: &[i64], o: usize) -> bool
     true
 }
 
-// the first m entries of a
-pub fn copy(m: usize, a: &[i64], buf: &mut [i64])
-    requires { ⌜ (m ≤ length (now a)) × (m ≤ length (now buf)) ⌝ }
-    ensures { λ _. ⌜ Copied m (now (a .entry)) (now (buf .entry)) (now (buf .exit)) ⌝ }
-{
-    let mut t: usize = 0;
-    while t < m {
-        buf[t] = a[t];
-        t += 1;
-    }
-}
-
-// whether every entry of block o has magnitude at most c
+// Whether every entry of block o has magnitude at most c.
 pub fn within(n: usize, buf: &[i64], o: usize, c: u64) -> bool
     requires { ⌜ (IsOrder n) × (Has n (now buf) o) ⌝ }
     ensures { λ r. ⌜ Tells (Low n c (block n (now (buf .entry)) o)) r ⌝ }
@@ -185,4 +157,33 @@ pub fn within(n: usize, buf: &[i64], o: usize, c: u64) -> bool
         t += 1;
     }
     true
+}
+
+// Entry (i, j) of the product of the tables at places p and q.
+fn dot(n: usize, a: &[i64], p: usize, b: &[i64], q: usize, i: usize, j: usize) -> i64
+    requires { ⌜ Dot n (now a) p (now b) q i j ⌝ }
+    ensures { λ r. ⌜ r ≡ (tableAt n (now (a .entry)) p ·⟨ n ⟩ tableAt n (now (b .entry)) q) i j ⌝ }
+{
+    let mut s: i64 = 0;
+    let mut k: usize = 0;
+    while k < n {
+        s = numbers::mac(s, cell(n, a, p, i, k), cell(n, b, q, k, j));
+        k += 1;
+    }
+    s
+}
+
+// Entry (i, k) of the table at place p.
+fn cell(n: usize, a: &[i64], p: usize, i: usize, k: usize) -> i64
+    requires { ⌜ (n ≤ 32) × ((i < n) × ((k < n) × (p + n * n ≤ length (now a)))) ⌝ }
+    ensures { λ r. ⌜ r ≡ getD (now (a .entry)) (p + (i * n + k)) (pos 0) ⌝ }
+{
+    a[p + (i * n + k)]
+}
+
+// 1 on the diagonal, 0 elsewhere.
+fn unit(i: usize, j: usize) -> i64
+    ensures { λ r. ⌜ r ≡ δ i j ⌝ }
+{
+    if i == j { 1 } else { 0 }
 }

@@ -10,7 +10,7 @@ ghost use Rattle.numbers.specs.Limits.{IsOrder};
 ghost use Rattle.tables.specs.Elimination.{Going, Advances, None};
 ghost use Rattle.tables.specs.Parity.{InverseMod2, bits, xored, Sized, Pivot, Loaded, Unpacked};
 
-// an inverse of a modulo 2, in zeros and ones; false, with out as it was, where there is none
+// An inverse of a modulo 2, in zeros and ones; false, with out as it was, where there is none.
 pub fn inverse(n: usize, a: &[i64], out: &mut [i64]) -> bool
     requires { ⌜ (IsOrder n) × ((length (now a) ≡ n * n) × (length (now out) ≡ n * n)) ⌝ }
     ensures { λ b. ⌜ Says (InverseMod2 n (entries n (now (a .entry))) (now (out .exit))) ((¬ HasInverseMod 2 n (entries n (now (a .entry)))) × (now (out .exit) ≡ now (out .entry))) b ⌝ }
@@ -24,7 +24,7 @@ pub fn inverse(n: usize, a: &[i64], out: &mut [i64]) -> bool
     }
 }
 
-// the same inverse as words: bit i of word j is the entry in row i and column j
+// The same inverse as words: bit i of word j is the entry in row i and column j.
 fn invert(n: usize, a: &[i64], c: &mut [u32; 32]) -> bool
     requires { ⌜ (n ≤ 32) × ((length (now a) ≡ n * n) × (length (now c) ≡ 32)) ⌝ }
     ensures { λ b. ⌜ Says (CongM n (pos 2) (entries n (now (a .entry)) ·⟨ n ⟩ bits (now (c .exit))) δ) (¬ HasInverseMod 2 n (entries n (now (a .entry)))) b ⌝ }
@@ -41,7 +41,7 @@ fn invert(n: usize, a: &[i64], c: &mut [u32; 32]) -> bool
     true
 }
 
-// row r of p becomes that of the identity; false where no word from r on has bit r
+// Row r of p becomes that of the identity; false where no word from r on has bit r.
 fn settle(n: usize, r: usize, c: &mut [u32; 32], p: &mut [u32; 32]) -> bool
     requires { ⌜ (r < n) × Sized n (now c) (now p) ⌝ }
     ensures { λ b. ⌜ (Sized n (now (c .exit)) (now (p .exit))) × Says (Advances n 2 r (bits (now (c .entry))) (bits (now (p .entry))) (bits (now (c .exit))) (bits (now (p .exit)))) (None 2 n r (bits (now (p .entry)))) b ⌝ }
@@ -58,7 +58,7 @@ fn settle(n: usize, r: usize, c: &mut [u32; 32], p: &mut [u32; 32]) -> bool
     true
 }
 
-// the first word from r on that has bit r, or n
+// The first word from r on that has bit r, or n.
 fn pivot(n: usize, r: usize, p: &[u32; 32]) -> usize
     requires { ⌜ (n ≤ 32) × (r < n) ⌝ }
     ensures { λ s. ⌜ Pivot n r (bits (now (p .entry))) s ⌝ }
@@ -73,7 +73,7 @@ fn pivot(n: usize, r: usize, p: &[u32; 32]) -> usize
     n
 }
 
-// word r, which has bit r, joins every other word that has bit r
+// Word r, which has bit r, joins every other word that has bit r.
 fn clear(n: usize, r: usize, c: &mut [u32; 32], p: &mut [u32; 32])
     requires { ⌜ (r < n) × Sized n (now c) (now p) ⌝ }
     requires { ⌜ Cong (pos 2) (bits (now p) r r) (pos 1) ⌝ }
@@ -91,7 +91,7 @@ fn clear(n: usize, r: usize, c: &mut [u32; 32], p: &mut [u32; 32])
     }
 }
 
-// word s joins word d
+// Word s joins word d.
 fn join(l: &mut [u32; 32], d: usize, s: usize)
     requires { ⌜ (d < 32) × (s < 32) ⌝ }
     ensures { λ _. ⌜ now (l .exit) ≡ xored (now (l .entry)) d s ⌝ }
@@ -99,7 +99,7 @@ fn join(l: &mut [u32; 32], d: usize, s: usize)
     l[d] = l[d] ^ l[s];
 }
 
-// the identity in c, and the parities of a in p
+// The identity in c, and the parities of a in p.
 fn load(n: usize, a: &[i64], c: &mut [u32; 32], p: &mut [u32; 32])
     requires { ⌜ (length (now a) ≡ n * n) × Sized n (now c) (now p) ⌝ }
     ensures { λ _. ⌜ (Sized n (now (c .exit)) (now (p .exit))) × Going n 2 0 (entries n (now (a .entry))) (bits (now (c .exit))) (bits (now (p .exit))) ⌝ }
@@ -112,7 +112,7 @@ fn load(n: usize, a: &[i64], c: &mut [u32; 32], p: &mut [u32; 32])
     }
 }
 
-// the parities of column j, as a word
+// The parities of column j, as a word.
 fn column(n: usize, a: &[i64], j: usize) -> u32
     requires { ⌜ (n ≤ 32) × ((j < n) × (length (now a) ≡ n * n)) ⌝ }
     ensures { λ w. ⌜ Loaded n (entries n (now (a .entry))) j w ⌝ }
@@ -129,14 +129,14 @@ fn column(n: usize, a: &[i64], j: usize) -> u32
     w
 }
 
-// whether an entry is odd
+// Whether an entry is odd.
 fn odd(x: i64) -> bool
     ensures { λ r. ⌜ Says (Cong (pos 2) x (pos 1)) (Cong (pos 2) x (pos 0)) r ⌝ }
 {
     x % 2 != 0
 }
 
-// the table whose columns are the words of c
+// The table whose columns are the words of c.
 fn unpack(n: usize, c: &[u32; 32], out: &mut [i64])
     requires { ⌜ (IsOrder n) × (length (now out) ≡ n * n) ⌝ }
     ensures { λ _. ⌜ Unpacked n (now (c .entry)) (now (out .exit)) ⌝ }
@@ -150,7 +150,7 @@ fn unpack(n: usize, c: &[u32; 32], out: &mut [i64])
     }
 }
 
-// entry q, row by row, of that table
+// Entry q, row by row, of that table.
 fn entry(n: usize, c: &[u32; 32], q: usize) -> i64
     requires { ⌜ (IsOrder n) × (q < n * n) ⌝ }
     ensures { λ r. ⌜ r ≡ bits (now (c .entry)) (q / n) (q % n) ⌝ }
@@ -160,7 +160,7 @@ fn entry(n: usize, c: &[u32; 32], q: usize) -> i64
     if bit(c[j], i) != 0 { 1 } else { 0 }
 }
 
-// bit i of a word
+// Bit i of a word.
 fn bit(w: u32, i: usize) -> u32
     requires { ⌜ i < 32 ⌝ }
     ensures { λ r. ⌜ r ≡ w / 2 ^ i % 2 ⌝ }
