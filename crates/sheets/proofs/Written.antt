@@ -4,6 +4,7 @@ use mathlib.Core.Bool.{Bool, true, false, cond}
 use mathlib.Core.List.{List, [], _∷_, _++_}
 use Prim.Native.Nat.{ℕ, zero, suc, _+_, _-_, _≤_, _<_, _^_, min}
 use native.Mathlib.Nat.{zero-min, min-zero, suc-min-suc}
+use native.Mathlib.Decide.{decLe}
 use native.Mathlib.Numerals.{add-one}
 use native.Mathlib.Omega.{arith}
 use lib.Dec.{eqb}
@@ -17,7 +18,7 @@ use mir.Val.{SFits}
 use Rattle.numbers.proofs.Machine.{rd, rd-is, rd-ok}
 use Rattle.sheets.specs.Sheet.{decimal, figure, line, rows}
 use Rattle.sheets.specs.Writing.{Put}
-use Rattle.sheets.proofs.Puts.{put-join, Partly, partly-more, partly-all}
+use Rattle.sheets.proofs.Puts.{put-join, Partly, partly-start, partly-more, partly-all}
 
 below-text : (z : ℤ) → ltZ z (pos 0) ≡ true → 45 ∷ decimal (natAbs z) ≡ figure z
 below-text (pos n) h = absurd (omega (arith, ltb-true n 0 h))
@@ -76,6 +77,32 @@ drop-min (suc n) [] = simp min-zero
 drop-min (suc n) (z ∷ l) = simp suc-min-suc (drop-min n l)
 
 -- one line more
+-- no figures, no lines; and as many lines as figures are enough
+rows-none : (n k : ℕ) → rows n k [] ≡ []
+rows-none n zero = refl
+rows-none zero (suc k) = rows-none zero k
+rows-none (suc n) (suc k) = rows-none (suc n) k
+
+rows-enough : (n k j : ℕ) (fs : List ℤ) → length fs ≤ k → length fs ≤ j → rows (suc n) k fs ≡ rows (suc n) j fs
+rows-enough n zero j [] h l = sym (rows-none (suc n) j)
+rows-enough n zero j (f ∷ fs) h l = absurd (omega arith)
+rows-enough n (suc k) j [] h l = rows-none (suc n) (suc k) ∙ sym (rows-none (suc n) j)
+rows-enough n (suc k) zero (f ∷ fs) h l = absurd (omega arith)
+rows-enough n (suc k) (suc j) (f ∷ fs) h l =
+    ap (λ (r : List ℕ). line (take (suc n) (f ∷ fs)) ++ r) (rows-enough n k j (drop n fs) (omega (arith, length-drop n fs)) (omega (arith, length-drop n fs)))
+
+rows-few : (n : ℕ) (fs : List ℤ) → rows n n fs ≡ rows n (min n (length fs)) fs
+rows-few zero fs = rw zero-min
+rows-few (suc n) fs = elim (decLe (suc n) (length fs)) [
+  | yes h ↦ let e : min (suc n) (length fs) ≡ suc n = omega arith in rw e
+  | no f ↦ rows-enough n (suc n) (min (suc n) (length fs)) fs (omega arith) (omega arith)
+]
+
+pub rows-start : {old : List ℕ} {at left : ℕ} (n : ℕ) (fs : List ℤ) → left ≡ 0 + min n (length fs - 0) → Partly old at (rows n n fs) (rows n left (drop 0 fs)) at old
+rows-start {old} {at} {left} n fs e =
+    let q : left ≡ min n (length fs) = omega arith in
+    subst (λ (w : List ℕ). Partly old at (rows n n fs) w at old) (rows-few n fs ∙ ap (λ (k : ℕ). rows n k fs) (sym q)) (partly-start _ _ _)
+
 pub rows-turn : {old new last w : List ℕ} {at next q : ℕ} (fs : List ℤ) (n from to left : ℕ) → to ≡ from + min n (length fs - from) → 1 ≤ left
     → Partly old at w (rows n left (drop from fs)) next new → Put new next (line (take (to - from) (drop from fs))) q last
     → Partly old at w (rows n (left - 1) (drop to fs)) q last

@@ -4,15 +4,11 @@ ghost use mathlib.Core.List.{[]};
 ghost use Prim.Native.Nat.{_≤_, _<_};
 ghost use lib.ListN.{length, drop};
 ghost use Rattle.sheets.specs.Model.{refusal, moved, scan, Sane, Ready, Body, Entered, closing, entryForm};
-use super::CELLS_MOST;
 use super::Place;
 use super::Reason;
 use super::number::Form;
 use super::number::Next;
 use super::number::Seen;
-
-// The greatest magnitude of an entry, 2^20.
-const ENTRY_MOST: u64 = 1048576;
 
 // A place in a text.
 pub(crate) struct Cursor {
@@ -35,7 +31,12 @@ pub(crate) enum Rest {
 
 impl Cursor {
     // Reads the entries of a sheet of order n, row by row, into the table.
-    pub(crate) fn entries(self, text: &[u8], n: usize, table: &mut [i64; CELLS_MOST]) -> Rest
+    pub(crate) fn entries(
+        self,
+        text: &[u8],
+        n: usize,
+        table: &mut [i64; numbers::MOST_CELLS],
+    ) -> Rest
         requires { ⌜ (Ready (now text) self (Body n [] Seen.Nothing)) × (length (now table) ≡ 1024) ⌝ }
         ensures { λ r. ⌜ Entered (now (text .entry)) n r (now (table .exit)) ⌝ }
     {
@@ -123,7 +124,7 @@ fn entry_form(n: usize, i: usize) -> Form
 {
     Form {
         signed: true,
-        limit: ENTRY_MOST,
+        limit: numbers::MOST_ENTRY,
         closing: closing_byte(n, i),
     }
 }

@@ -27,7 +27,8 @@ pub fn put_rows(out: &mut [u8], at: usize, n: usize, figures: &[i64]) -> usize
 {
     let mut next = at;
     let mut from: usize = 0;
-    let mut left = n;
+    // no more lines than figures, whatever n is
+    let mut left = line_end(0, n, figures.len());
     while 0 < left {
         let to = line_end(from, n, figures.len());
         next = put_line(out, next, &figures[from..to]);

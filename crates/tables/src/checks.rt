@@ -7,12 +7,6 @@ ghost use Rattle.numbers.specs.Says.{Tells};
 ghost use Rattle.tables.specs.Tables.{height};
 ghost use Rattle.tables.specs.Checks.{Finds};
 
-// The greatest order.
-const MOST_ORDER: usize = 32;
-
-// The greatest magnitude of an entry: 2^20.
-const MOST_ENTRY: u64 = 1048576;
-
 // Where an entry is outside the range; row and column from 0.
 pub enum Outside {
     At { row: usize, column: usize },
@@ -26,7 +20,7 @@ pub fn is_order(n: usize) -> bool
     if n < 1 {
         return false;
     }
-    n <= MOST_ORDER
+    n <= numbers::MOST_ORDER
 }
 
 // Whether every entry is inside the range.
@@ -68,7 +62,7 @@ pub fn first_outside(n: usize, table: &[i64]) -> Outside
 fn is_entry(v: i64) -> bool
     ensures { λ r. ⌜ Tells (IsEntry v) r ⌝ }
 {
-    numbers::mag(v) <= MOST_ENTRY
+    numbers::mag(v) <= numbers::MOST_ENTRY
 }
 
 // The larger of 1 and the greatest magnitude of an entry.

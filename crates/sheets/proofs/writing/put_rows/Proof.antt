@@ -1,9 +1,11 @@
 use Prim.Native.Nat.{_≤_}
 use native.Mathlib.Omega.{arith}
+use borrow.Author.Needs.{needs}
+use denote.Ref.{now}
 use lib.ListN.{length, drop}
 use Rattle.sheets.specs.Sheet.{rows}
-use Rattle.sheets.proofs.Puts.{Partly, partly-start, partly-length}
-use Rattle.sheets.proofs.Written.{rows-turn, rows-all}
+use Rattle.sheets.proofs.Puts.{Partly, partly-length}
+use Rattle.sheets.proofs.Written.{rows-start, rows-turn, rows-all}
 use Rattle.sheets.proofs.writing.put_rows.Statement.{statement}
 use Rattle.sheets.proofs.writing.put_rows.Tie as tie
 
@@ -13,23 +15,28 @@ Inv-loop out₀ at n figures next₀ from₀ left₀ out next from left = (from 
 abbrev μ-loop : tie.MeasureT-loop
 μ-loop out₀ at n figures next₀ from₀ left₀ out next from left = left
 
-loop-holds : tie.Need-loop-holds Inv-loop μ-loop
-loop-holds c = (omega arith, partly-start _ _ _)
-
 line-end-requires : tie.Need-line-end-requires Inv-loop μ-loop
-line-end-requires c κs = c .before .loop .inv .0
+line-end-requires c κs = search needs
+
+loop-holds : tie.Need-loop-holds Inv-loop μ-loop
+loop-holds c =
+    let a = c .before .before .args in
+    (omega arith, rows-start (a .n) (now (a .figures)) (c .line-end .ensures))
+
+line-end-requires-2 : tie.Need-line-end-requires-2 Inv-loop μ-loop
+line-end-requires-2 c κs = c .before .loop .inv .0
 
 mul-put-line : tie.Need-mul-put-line Inv-loop μ-loop
-mul-put-line c = omega (arith, c .before .before .before .loop .inv .0, c .before .before .before .before .before .good)
+mul-put-line c = omega (arith, c .before .before .before .loop .inv .0, c .before .before .before .before .before .before .good)
 
 sub-put-line : tie.Need-sub-put-line Inv-loop μ-loop
-sub-put-line c = omega (arith, c .before .line-end .ensures)
+sub-put-line c = omega (arith, c .before .line-end2 .ensures)
 
 part-put-line-start : tie.Need-part-put-line-start Inv-loop μ-loop
-part-put-line-start c = omega (arith, c .before .line-end .ensures)
+part-put-line-start c = omega (arith, c .before .line-end2 .ensures)
 
 part-put-line-end : tie.Need-part-put-line-end Inv-loop μ-loop
-part-put-line-end c = omega (arith, c .before .line-end .ensures, c .before .before .before .loop .inv .0)
+part-put-line-end c = omega (arith, c .before .line-end2 .ensures, c .before .before .before .loop .inv .0)
 
 put-line-requires : tie.Need-put-line-requires Inv-loop μ-loop
 put-line-requires c κs = tt
@@ -43,8 +50,8 @@ loop-less c = omega (arith, c .before .before .before .before .before .before .l
 loop-again : tie.Need-loop-again Inv-loop μ-loop
 loop-again c =
     let l = c .before .before .before .before .before .before .before .loop in
-    let e = c .before .before .before .before .before .line-end .ensures in
-    (omega (arith, e, l .inv .0), rows-turn (c .before .before .before .before .before .before .before .before .before .args .figures .now) _ _ _ _ e (c .before .before .before .before .before .before .loop-test .taken) (l .inv .1) (c .before .before .put-line .ensures))
+    let e = c .before .before .before .before .before .line-end2 .ensures in
+    (omega (arith, e, l .inv .0), rows-turn (c .before .before .before .before .before .before .before .before .before .before .args .figures .now) _ _ _ _ e (c .before .before .before .before .before .before .loop-test .taken) (l .inv .1) (c .before .before .put-line .ensures))
 
 same-length : tie.Need-same-length Inv-loop μ-loop
 same-length c = partly-length (c .before .loop .inv .1)
@@ -58,8 +65,9 @@ put-rows-spec =
     (tie.spec
     Inv-loop
     μ-loop
-    loop-holds
     line-end-requires
+    loop-holds
+    line-end-requires-2
     mul-put-line
     sub-put-line
     part-put-line-start
