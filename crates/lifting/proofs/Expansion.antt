@@ -1,7 +1,7 @@
 -- What document 01 says of an expansion, over every modulus X and every base p: it exists exactly if A has an inverse modulo the base, it is
 -- unique, what it means, and its bounds; and the same of what lift leaves in the lent buffer.
-use mathlib.Core.Path.{_≡_, refl, sym, ap, ap₂, subst, _∙_}
-use mathlib.Core.Logic.{_↔_, _⊎_, inl, inr}
+use mathlib.Core.Path.{_≡_, refl, sym, ap, subst, _∙_}
+use mathlib.Core.Logic.{_↔_}
 use mathlib.Core.List.{List}
 use Prim.Native.Nat.{ℕ, zero, suc, _+_, _-_, _*_, _^_, _≤_, _<_}
 use native.Mathlib.Omega.{arith}

@@ -1,10 +1,10 @@
 -- One start, one digit and one step: each holds of tables that agree, is unique, and exists where A·B = I modulo X.
 -- A step is a digit of R², and a start is one of I, so that the laws of a digit serve all three.
-use mathlib.Core.Path.{_≡_, sym, ap, ap₂, subst, subst₂, _∙_}
+use mathlib.Core.Path.{_≡_, sym, ap, subst, subst₂, _∙_}
 use mathlib.Core.Logic.{_≢_}
 use Prim.Native.Nat.{ℕ, _<_}
 use native.Mathlib.Omega.{arith}
-use lib.IntN.{ℤ, pos, natAbs, negℤ, _-ℤ_, _*ℤ_}
+use lib.IntN.{ℤ, pos, natAbs, negℤ, _*ℤ_}
 use lib.Signed.{shrZ}
 use Rattle.numbers.specs.Numbers.{IsRem}
 use Rattle.numbers.specs.Remainder.{rem}
@@ -15,7 +15,7 @@ use Rattle.numbers.proofs.Remainder.{balanced-unique, rem-is, rem-unique}
 use Rattle.numbers.proofs.RingSolver.{ring, if_is_by_then_, #_, _⊖_, _⊗_, ⊝_, _≐_}
 use Rattle.numbers.proofs.Sum.{δ}
 use Rattle.tables.specs.Tables.{Matrix, Below, _≈⟨_⟩_, _⊟_, _⊙_, _·⟨_⟩_, CongM}
-use Rattle.tables.proofs.Matrix.{≈-refl, ≈-sym, ·-cong, ·-idʳ, ⊟-cong}
+use Rattle.tables.proofs.Matrix.{≈-refl, ·-cong, ·-idʳ, ⊟-cong}
 use Rattle.tables.proofs.MatrixSolver.{modular, given_is_by_and_then_, 𝟙, _·ᵉ_, _≑_}
 use Rattle.tables.proofs.TwoSided.{inverse-unique-mod}
 use Rattle.lifting.specs.Lifting.{IsStart, IsDigit, IsStep}
