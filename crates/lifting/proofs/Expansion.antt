@@ -1,11 +1,11 @@
 -- What document 01 says of an expansion, over every modulus X and every base p: it exists exactly if A has an inverse modulo the base, it is
--- unique, what it means, and its bounds; and the same of what lift leaves in the lent buffer.
-use mathlib.Core.Path.{_≡_, refl, sym, ap, subst, _∙_}
+-- unique, what it means, and its bounds; and the same of what lift leaves in the lent buffer. R_i is block 2i + 1.
+use mathlib.Core.Path.{_≡_, refl, sym, ap, _∙_}
 use mathlib.Core.Logic.{_↔_}
 use mathlib.Core.List.{List}
 use Prim.Native.Nat.{ℕ, zero, suc, _+_, _-_, _*_, _^_, _≤_, _<_}
 use native.Mathlib.Omega.{arith}
-use native.Mathlib.Nat.{pow-suc, pow-zero, one-mul, mul-pos, two-pow-succ}
+use native.Mathlib.Nat.{pow-suc, pow-zero, one-mul, one-le-pow, two-pow-succ}
 use lib.IntN.{ℤ, pos, natAbs}
 use lib.Pow.{pow-add, pow-mono, pow-pos}
 use Rattle.numbers.specs.Numbers.{Enough}
@@ -21,14 +21,10 @@ use Rattle.lifting.proofs.Exists.{expansion-of}
 use Rattle.lifting.proofs.Unique.{expansion-same}
 use Rattle.lifting.proofs.Refusals.{lift-enough}
 
-base-pos : (p e : ℕ) → 2 ≤ p → 0 < p ^ e
-base-pos p zero h = let q = pow-zero p in omega arith
-base-pos p (suc e) h = subst (λ (m : ℕ). 0 < m) (sym (pow-suc p e)) (mul-pos (base-pos p e h) (omega arith))
-
 -- it exists exactly if A has an inverse modulo p, where X = p^e
 pub expansion-exists : (p e n s : ℕ) → 2 ≤ p → 1 ≤ e → (A : Matrix) → ((L : List ℤ) × IsExpansion n (p ^ e) s A L) ↔ HasInverseMod p n A
 expansion-exists p e n s h l A =
-    (λ x. expansion-base p l (x .1), λ w. expansion-of n (p ^ e) A (base-pos p e h) (power-mod p n A w e) s)
+    (λ x. expansion-base p l (x .1), λ w. expansion-of n (p ^ e) A (one-le-pow e p (omega arith)) (power-mod p n A w e) s)
 
 pub expansion-unique : {n X s : ℕ} {A : Matrix} {L K : List ℤ} → 0 < X → IsExpansion n X s A L → IsExpansion n X s A K → L ≡ K
 expansion-unique {n} {X} {s} {A} {L} {K} h p q = expansion-same n X s h A L K p q
@@ -42,14 +38,10 @@ pub modulus-power : (X i : ℕ) → modulus X i ≡ X ^ (2 ^ (i + 1) - 1)
 unfolding modulus
 modulus-power X zero = sym (pow-suc X 0 ∙ ap (λ (y : ℕ). y * X) (pow-zero X) ∙ one-mul X)
 modulus-power X (suc i) =
-    let q : ℕ = 2 ^ (i + 1) in
-    let some = pow-pos (i + 1) in
+    let m : ℕ = 2 ^ (i + 1) - 1 in
     let e : suc i + 1 ≡ suc (i + 1) = omega arith in
-    let f : suc (q - 1 + (q - 1)) ≡ q + q - 1 = omega arith in
-    ap (λ (m : ℕ). m * m * X) (modulus-power X i)
-    ∙ ap (λ (m : ℕ). m * X) (sym (pow-add X (q - 1) (q - 1)))
-    ∙ sym (pow-suc X (q - 1 + (q - 1)))
-    ∙ ap (λ (m : ℕ). X ^ m) (f ∙ ap (λ (m : ℕ). m - 1) (sym (two-pow-succ (i + 1)) ∙ ap (λ (m : ℕ). 2 ^ m) (sym e)))
+    let f : suc (m + m) ≡ 2 ^ (suc i + 1) - 1 = omega (arith, pow-pos (i + 1), ap (λ (k : ℕ). 2 ^ k) e ∙ two-pow-succ (i + 1)) in
+    ap (λ (x : ℕ). x * x * X) (modulus-power X i) ∙ ap (λ (x : ℕ). x * X) (sym (pow-add X m m)) ∙ sym (pow-suc X (m + m)) ∙ ap (λ (k : ℕ). X ^ k) f
 
 module _ {n h X s : ℕ} {A : Matrix} {L : List ℤ} (wide : 60 ≤ X) (enough : 4 * (n * n) * h ≤ X) (low : Below n (λ i j. natAbs (A i j) ≤ h)) (p : IsExpansion n X s A L) where
   -- 5·|r| ≤ 3·n·h for every entry r of R_i
@@ -67,7 +59,7 @@ module _ {n s e : ℕ} {A L E : List ℤ} (p : LiftGives n s e A L 0 E) where
   pub lift-meaning : (i : ℕ) → i ≤ s → entries n A ·⟨ n ⟩ lifted n (2 ^ e) E i ≈⟨ n ⟩ δ ⊟ pos (modulus (2 ^ e) i) ⊙ block n E (2 * i + 1)
   lift-meaning = meaning (p .written refl)
 
-  -- 5·|r| ≤ 3·n·h for every entry r of R_i, which is block 2i + 1
+  -- 5·|r| ≤ 3·n·h for every entry r of R_i
   pub lift-bound : (i : ℕ) → i ≤ s → Below n (λ a b. 5 * natAbs (block n E (2 * i + 1) a b) ≤ 3 * (n * height A))
   lift-bound =
       let q : Enough n (height A) e = lift-enough p in

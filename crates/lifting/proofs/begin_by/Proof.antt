@@ -27,7 +27,7 @@ copy-requires : tie.Need-copy-requires
 copy-requires c κs =
     let s = c .before .before .before .before in
     let p = s .before .before .pre in
-    (omega (arith, square-small (p .0 .setting .lawful .order .upto), p .1, s .start .ensures .long), p .0 .room)
+    (omega (arith, square-small (p .0 .setting .lawful .order .upto), p .1, s .start .ensures .long), omega (arith, p .0 .room))
 
 same-length-2 : tie.Need-same-length-2
 same-length-2 c = search needs
