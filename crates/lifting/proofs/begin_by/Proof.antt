@@ -9,12 +9,7 @@ use Rattle.lifting.proofs.begin_by.Tie as tie
 start-requires : tie.Need-start-requires
 start-requires c κs =
     let p = c .before .pre in
-    record {
-      lawful = p .0 .lawful;
-      from = let h = p .0 .enough .from in omega arith;
-      upto = p .0 .top;
-      work = let h = square-small (p .0 .lawful .order .upto) in let l = p .1 in omega arith;
-    }
+    record { setting = p .0 .setting; work = omega (arith, square-small (p .0 .setting .lawful .order .upto), p .1) }
 
 same-length : tie.Need-same-length
 same-length c = search needs
@@ -32,7 +27,7 @@ copy-requires : tie.Need-copy-requires
 copy-requires c κs =
     let s = c .before .before .before .before in
     let p = s .before .before .pre in
-    (let h = square-small (p .0 .lawful .order .upto) in let k = p .1 in let l = s .start .ensures .long in omega arith, p .0 .room)
+    (omega (arith, square-small (p .0 .setting .lawful .order .upto), p .1, s .start .ensures .long), omega (arith, p .0 .room))
 
 same-length-2 : tie.Need-same-length-2
 same-length-2 c = search needs

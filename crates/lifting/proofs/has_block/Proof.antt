@@ -1,11 +1,8 @@
-use Prim.Native.Nat.{ℕ, _+_, _*_, _≤_}
-use native.Mathlib.Nat.{mul-le-mul}
 use native.Mathlib.Omega.{arith}
 use borrow.Author.Needs.{needs}
 use borrow.Author.Tests.{not-true, not-false}
 use Rattle.numbers.specs.Limits.{IsOrder}
 use Rattle.numbers.proofs.Says.{say-no, say-leb}
-use Rattle.tables.proofs.Buffers.{square-small}
 use Rattle.lifting.proofs.Blocks.{size-small}
 use Rattle.lifting.proofs.has_block.Statement.{statement}
 use Rattle.lifting.proofs.has_block.Tie as tie
