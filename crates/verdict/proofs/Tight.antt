@@ -1,17 +1,17 @@
 -- How tight the statements are: what the calls' promises leave on some starred tables, by uniqueness. A build that refuses everything, one with a
 -- constant verdict, one that writes no block, one that fills later blocks with zeros, one that invents need or k, and one with remainders
 -- from 0 to X - 1 break one of these.
-use mathlib.Core.Path.{_≡_, refl}
+use mathlib.Core.Path.{_≡_}
 use mathlib.Core.List.{List, [], _∷_}
 use Prim.Native.Nat.{ℕ, zero, suc, _<_}
 use native.Mathlib.Nat.{not-suc-le-zero, le-of-suc-le-suc}
 use native.Mathlib.Omega.{arith}
 use lib.IntN.{ℤ, pos}
-use lib.ListN.{length, getD, replicate}
+use lib.ListN.{length, getD}
 use Rattle.lifting.specs.Lifting.{LiftGives}
 use Rattle.lifting.proofs.Unique.{lift-unique}
 use Rattle.verdict.specs.Verdict.{answer, outcomeOf, VerdictGives, InverseGives}
-use Rattle.verdict.specs.Starred.{minus, Case, lifts-are, lift-writes, Claim, Every, starred, thin, corner}
+use Rattle.verdict.specs.Starred.{minus, Case, lifts-are, Claim, Every, starred, thin}
 use Rattle.verdict.specs.declared.Ruling.{Ruling}
 use Rattle.verdict.specs.declared.Ruling.the-variants.{Yes, No}
 use Rattle.verdict.specs.declared.Outcome.{Outcome}
