@@ -25,6 +25,7 @@ hostVerdictRefusals n T =
 
 pub record HostVerdictGives (n : ℕ) (T : List ℕ) (k : ℕ) : Type 0 where
   pub number : Gives (hostVerdictRefusals n T) k
+  -- (`number` alone says only that it is false that none exists)
   pub whole : k ≡ 0 → HasWholeInverse n (entries n (decode T))
 
 abbrev pub hostInverseRefusals : ℕ → List ℕ → List ℕ → Refusals

@@ -22,7 +22,7 @@ use Rattle.lifting.proofs.Unique.{expansion-same}
 use Rattle.lifting.proofs.Refusals.{lift-enough}
 
 -- it exists exactly if A has an inverse modulo p, where X = p^e
-pub expansion-exists : (p e n s : ℕ) → 2 ≤ p → 1 ≤ e → (A : Matrix) → ((L : List ℤ) × IsExpansion n (p ^ e) s A L) ↔ HasInverseMod p n A
+pub expansion-exists : (p e n s : ℕ) → 2 ≤ p → 1 ≤ e → (A : Matrix) → ((L : List ℤ) × IsExpansion n (p ^ e) s A L) ↔ HasInverseMod n p A
 expansion-exists p e n s h l A =
     (λ x. expansion-base p l (x .1), λ w. expansion-of n (p ^ e) A (one-le-pow e p (omega arith)) (power-mod p n A w e) s)
 

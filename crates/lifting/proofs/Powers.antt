@@ -15,14 +15,14 @@ use Rattle.lifting.specs.Lifting.{IsExpansion}
 use Rattle.lifting.proofs.Rules.{start-right, divide, divided}
 
 -- modulo p·q, hence modulo p
-pub fewer-mod : {n : ℕ} {A : Matrix} (p q : ℕ) → HasInverseMod (p * q) n A → HasInverseMod p n A
+pub fewer-mod : {n : ℕ} {A : Matrix} (p q : ℕ) → HasInverseMod n (p * q) A → HasInverseMod n p A
 fewer-mod {n} {A} p q w = record {
   inverse = w .inverse;
   right = λ i j h k. let c = w .right i j h k in record { quot = pos q *ℤ c .quot; eqn = c .eqn ∙ ring 3 (λ p q t. p ⊗ q ⊗ t ≐ p ⊗ (q ⊗ t)) tt (pos p) (pos q) (c .quot) };
 }
 
 -- from X to X²: A·C = I - X·Q gives A·(C·(I + X·Q)) = I - X²·Q²
-squared-mod : (n X : ℕ) (A : Matrix) → HasInverseMod X n A → HasInverseMod (X * X) n A
+squared-mod : (n X : ℕ) (A : Matrix) → HasInverseMod n X A → HasInverseMod n (X * X) A
 squared-mod n X A w =
     let C : Matrix = w .inverse in
     let Q : Matrix = divide X (δ ⊟ A ·⟨ n ⟩ C) in
@@ -36,14 +36,14 @@ squared-mod n X A w =
     }
 
 -- from p to p^(2^e), and so to p^e
-pub power-mod : (p n : ℕ) (A : Matrix) → HasInverseMod p n A → (e : ℕ) → HasInverseMod (p ^ e) n A
-power-mod p n A w e = fewer-mod (p ^ e) (p ^ (2 ^ e - e)) (subst (λ (m : ℕ). HasInverseMod m n A) split (tower e))
+pub power-mod : (p n : ℕ) (A : Matrix) → HasInverseMod n p A → (e : ℕ) → HasInverseMod n (p ^ e) A
+power-mod p n A w e = fewer-mod (p ^ e) (p ^ (2 ^ e - e)) (subst (λ (m : ℕ). HasInverseMod n m A) split (tower e))
   where
-    tower : (j : ℕ) → HasInverseMod (p ^ (2 ^ j)) n A
-    tower zero = subst (λ (m : ℕ). HasInverseMod m n A) (sym (pow-suc p 0 ∙ ap (λ (y : ℕ). y * p) (pow-zero p) ∙ one-mul p)) w
+    tower : (j : ℕ) → HasInverseMod n (p ^ (2 ^ j)) A
+    tower zero = subst (λ (m : ℕ). HasInverseMod n m A) (sym (pow-suc p 0 ∙ ap (λ (y : ℕ). y * p) (pow-zero p) ∙ one-mul p)) w
     tower (suc j) =
         subst
-        (λ (m : ℕ). HasInverseMod m n A)
+        (λ (m : ℕ). HasInverseMod n m A)
         (sym (pow-add p (2 ^ j) (2 ^ j)) ∙ ap (λ (y : ℕ). p ^ y) (sym (two-pow-succ j)))
         (squared-mod n (p ^ (2 ^ j)) A (tower j))
 
@@ -53,8 +53,8 @@ power-mod p n A w e = fewer-mod (p ^ e) (p ^ (2 ^ e - e)) (subst (λ (m : ℕ). 
         let q : 2 ^ e ≡ e + (2 ^ e - e) = omega arith in
         ap (λ (y : ℕ). p ^ y) q ∙ pow-add p e (2 ^ e - e)
 
-pub expansion-base : (p : ℕ) {n s e : ℕ} {A : Matrix} {L : List ℤ} → 1 ≤ e → IsExpansion n (p ^ e) s A L → HasInverseMod p n A
+pub expansion-base : (p : ℕ) {n s e : ℕ} {A : Matrix} {L : List ℤ} → 1 ≤ e → IsExpansion n (p ^ e) s A L → HasInverseMod n p A
 expansion-base p {n} {s} {e = zero} {A} {L} h x = absurd (omega arith)
 expansion-base p {n} {s} {e = suc e} {A} {L} h x =
     fewer-mod p (p ^ e)
-    (subst (λ (m : ℕ). HasInverseMod m n A) (pow-suc p e ∙ mul-comm (p ^ e) p) (record { inverse = block n L 0; right = start-right (x .blocks .start) }))
+    (subst (λ (m : ℕ). HasInverseMod n m A) (pow-suc p e ∙ mul-comm (p ^ e) p) (record { inverse = block n L 0; right = start-right (x .blocks .start) }))

@@ -3,8 +3,7 @@ use mathlib.Core.Path.{_≡_, sym, _∙_}
 use mathlib.Core.Logic.{inl, inr}
 use Prim.Native.Nat.{ℕ, _≤_, _<_}
 use native.Mathlib.Omega.{arith}
-use Rattle.numbers.specs.Numbers.{Least}
-use Rattle.numbers.specs.Refusals.{Refusals, done, _when_then_, Gives, Applies, Rising}
+use Rattle.numbers.specs.Refusals.{Refusals, done, _when_then_, Gives, Applies, Rising, Lowest, refused, none}
 
 pub gives-unique : (rs : Refusals) {j k : ℕ} → Gives rs j → Gives rs k → j ≡ k
 gives-unique done p q = p ∙ sym q
@@ -17,11 +16,6 @@ gives-unique (i when P then rs) (inr p) (inr q) = gives-unique rs (p .1) (q .1)
 above : (m : ℕ) (rs : Refusals) {k : ℕ} → Rising m rs → Applies rs k → m < k
 above m (i when P then rs) r (inl p) = omega arith
 above m (i when P then rs) r (inr p) = let h = above i rs (r .1) p in omega arith
-
--- the lowest number that applies, or 0 and none does
-pub data Lowest (rs : Refusals) (k : ℕ) : Type 0 where
-  refused : Least (Applies rs) k → Lowest rs k
-  none : k ≡ 0 → ((j : ℕ) → ¬ Applies rs j) → Lowest rs k
 
 pub gives-lowest : (m : ℕ) (rs : Refusals) {k : ℕ} → Rising m rs → Gives rs k → Lowest rs k
 gives-lowest m done r e = none e (λ j a. a)

@@ -1,12 +1,14 @@
 -- The number that a call gives back.
 --   Refusals          a call's numbers in the stated order, each with what it stands for: `1 when P then 2 when Q then done`
 --   Gives rs k        k is the first of them that applies, or 0 where none does
+-- The order decides, not the size of a number. But where the numbers rise, the first that applies is the lowest (`gives-lowest`):
 --   Applies rs k      number k applies, wherever it stands
---   Rising from rs    the numbers rise, from above `from` on
--- Where they rise, the first that applies is the lowest (proofs/Refusals.antt). The order decides, not the size of a number.
+--   Lowest rs k       k is the lowest number that applies, or 0 where none does
+--   Rising m rs       the numbers rise, from above m on
 use mathlib.Core.Path.{_≡_}
 use mathlib.Core.Logic.{_⊎_}
 use Prim.Native.Nat.{ℕ, _<_}
+use Rattle.numbers.specs.Numbers.{Least}
 
 infixr 3 _when_then_
 pub data Refusals : Type 1 where
@@ -24,3 +26,7 @@ Applies (j when P then rs) k = (P × (k ≡ j)) ⊎ Applies rs k
 abbrev pub Rising : ℕ → Refusals → Type 0
 Rising m done = Unit {0}
 Rising m (j when P then rs) = (m < j) × Rising j rs
+
+pub data Lowest (rs : Refusals) (k : ℕ) : Type 0 where
+  refused : Least (Applies rs) k → Lowest rs k
+  none : k ≡ 0 → ((j : ℕ) → ¬ Applies rs j) → Lowest rs k

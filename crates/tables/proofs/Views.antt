@@ -9,16 +9,10 @@ use lib.IntN.{ℤ}
 use lib.ListN.{length}
 use denote.Ref.{RefT, ptr, now}
 use Rattle.numbers.specs.Limits.{IsOrder}
-use Rattle.tables.specs.Views.{Stretch, HasRow, RowGives}
+use Rattle.tables.specs.Views.{Stretch, Same, HasRow, RowGives}
 use Rattle.tables.proofs.Buffers.{square-small}
 
 -- ---- a view that is there or not
-
--- two parts of one memory, at one place, with one list. (A reference also has a name that no program sees.)
-pub record Same (r s : RefT (List ℤ)) : Type 0 where
-  pub memory : ptr r .0 ≡ ptr s .0
-  pub place : ptr r .1 ≡ ptr s .1
-  pub list : now r ≡ now s
 
 pub stretch-unique : {t r s : RefT (List ℤ)} {start size : ℕ} → Stretch t r start size → Stretch t s start size → Same r s
 stretch-unique p q = record { memory = p .memory ∙ sym (q .memory); place = p .place ∙ sym (q .place); list = p .list ∙ sym (q .list) }

@@ -1,4 +1,4 @@
--- The inverse modulo 2. The first name is the public answer; the others are the vocabulary of inner contracts, which a reader of the calls can skip.
+-- The inverse modulo 2. The first name is the answer of `inverse`; the others are the vocabulary of inner contracts, which a reader of the calls can skip.
 --   InverseMod2 n A t   the list t holds an inverse of A modulo 2, in zeros and ones
 --   bits c              the table whose columns are the words of c: bit i of word j is its entry in row i and column j
 --   xored l d s         the list l with word s joined to word d: each bit of word d becomes the sum of both, modulo 2

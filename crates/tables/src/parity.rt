@@ -13,7 +13,7 @@ ghost use Rattle.tables.specs.Parity.{InverseMod2, bits, xored, Sized, P
 // An inverse of a modulo 2, in zeros and ones; false, with out as it was, where there is none.
 pub fn inverse(n: usize, a: &[i64], out: &mut [i64]) -> bool
     requires { ⌜ (IsOrder n) × ((length (now a) ≡ n * n) × (length (now out) ≡ n * n)) ⌝ }
-    ensures { λ b. ⌜ Says (InverseMod2 n (entries n (now (a .entry))) (now (out .exit))) ((¬ HasInverseMod 2 n (entries n (now (a .entry)))) × (now (out .exit) ≡ now (out .entry))) b ⌝ }
+    ensures { λ b. ⌜ Says (InverseMod2 n (entries n (now (a .entry))) (now (out .exit))) ((¬ HasInverseMod n 2 (entries n (now (a .entry)))) × (now (out .exit) ≡ now (out .entry))) b ⌝ }
 {
     let mut c = [0u32; 32];
     if invert(n, a, &mut c) {
@@ -27,7 +27,7 @@ pub fn inverse(n: usize, a: &[i64], out: &mut [i64]) -> bool
 // The same inverse as words: bit i of word j is the entry in row i and column j.
 fn invert(n: usize, a: &[i64], c: &mut [u32; 32]) -> bool
     requires { ⌜ (n ≤ 32) × ((length (now a) ≡ n * n) × (length (now c) ≡ 32)) ⌝ }
-    ensures { λ b. ⌜ Says (CongM n (pos 2) (entries n (now (a .entry)) ·⟨ n ⟩ bits (now (c .exit))) δ) (¬ HasInverseMod 2 n (entries n (now (a .entry)))) b ⌝ }
+    ensures { λ b. ⌜ Says (CongM n (pos 2) (entries n (now (a .entry)) ·⟨ n ⟩ bits (now (c .exit))) δ) (¬ HasInverseMod n 2 (entries n (now (a .entry)))) b ⌝ }
 {
     let mut p = [0u32; 32];
     load(n, a, c, &mut p);

@@ -8,15 +8,15 @@ use native.Mathlib.Decide.{ℕ-discrete, decLe}
 use lib.IntN.{ℤ, natAbs}
 use lib.ListN.{length}
 use Rattle.numbers.specs.Limits.{IsOrder, Legal}
-use Rattle.numbers.specs.Refusals.{Gives}
-use Rattle.numbers.proofs.Refusals.{Lowest, gives-lowest}
+use Rattle.numbers.specs.Refusals.{Gives, Lowest}
+use Rattle.numbers.proofs.Refusals.{gives-lowest}
 use Rattle.numbers.specs.Numbers.{IsNeed, IsLifts}
 use Rattle.tables.specs.Tables.{entries, height, HasWholeInverse}
 use Rattle.tables.specs.Checks.{Lawful}
 use Rattle.tables.proofs.TwoSided.{inverse-unique}
 use Rattle.tables.proofs.Views.{both?, order?}
 use Rattle.verdict.specs.Verdict.{IsNarrow, TooWide, answer, outcomeOf, Told, after-0, after-7, after-8, Values, verdictRefusals, VerdictGives, inverseRefusals, InverseGives}
-use Rattle.verdict.specs.Parts.{AllWide, Written}
+use Rattle.verdict.specs.Parts.{NoneNarrow, Written}
 use Rattle.verdict.specs.declared.Ruling.{Ruling}
 use Rattle.verdict.specs.declared.Ruling.the-variants.{Yes, No, Refused}
 use Rattle.verdict.specs.declared.Outcome.{Outcome}
@@ -167,7 +167,7 @@ module _ {n : ℕ} {A : List ℤ} {r : Ruling} (says : VerdictGives n A (outcome
     pub after-no : {e l : ℕ} → r ≡ No e l → InverseGives n A L (answer 7 e l) L
     after-no q = inverse-as-verdict size (λ z. omega arith) (subst (λ (r : Ruling). VerdictGives n A (outcomeOf r)) q says)
 
-    pub after-wide : {e l : ℕ} → r ≡ Yes e l → AllWide n A → InverseGives n A L (answer 8 e l) L
+    pub after-wide : {e l : ℕ} → r ≡ Yes e l → NoneNarrow n A → InverseGives n A L (answer 8 e l) L
     after-wide {e} {l} q f =
         let v : VerdictGives n A (answer 0 e l) = subst (λ (r : Ruling). VerdictGives n A (outcomeOf r)) q says in
         let w = v .whole refl in

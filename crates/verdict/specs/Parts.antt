@@ -1,5 +1,5 @@
 -- The vocabulary of the parts of inverse.
---   AllWide n A       no whole inverse of A is narrow
+--   NoneNarrow n A       no whole inverse of A is narrow
 --   Summed n A M      block 0 of the buffer M is the whole inverse of A
 --   Written n A E     E is the whole inverse of A, and narrow
 --   Wide n A L E      E is the lent buffer L as it was, and no whole inverse is narrow
@@ -11,7 +11,7 @@ use Rattle.numbers.specs.Numbers.{δ}
 use Rattle.tables.specs.Tables.{Matrix, _≈⟨_⟩_, _·⟨_⟩_, entries, block}
 use Rattle.verdict.specs.Verdict.{Narrow, IsInverse}
 
-pub record AllWide (n : ℕ) (A : List ℤ) : Type 0 where
+pub record NoneNarrow (n : ℕ) (A : List ℤ) : Type 0 where
   pub none : (C : Matrix) → entries n A ·⟨ n ⟩ C ≈⟨ n ⟩ δ → ¬ Narrow n C
 
 pub record Summed (n : ℕ) (A M : List ℤ) : Type 0 where
@@ -23,4 +23,4 @@ pub record Written (n : ℕ) (A E : List ℤ) : Type 0 where
 
 pub record Wide (n : ℕ) (A L E : List ℤ) : Type 0 where
   pub kept : E ≡ L
-  pub wide : AllWide n A
+  pub wide : NoneNarrow n A

@@ -2,7 +2,11 @@
 --   minus n     -n
 --   Case        what a line of the table says, with what shows it in brackets
 --   Claim c     the claim of a line, about the rules and the calls' statements
+--   Answers n A o E   what the inverse call gives whatever the lent buffer L held: o, and E L in the buffer
+--   RuledYes n e k A E   what holds after a yes: the rule, the expansion E of k lifts at e, and the verdict
 --   Every P cs  P holds of every line
+--   thin, thick       the 3 by 3 table of document 01, and the same with 262145 (corner: what follows B_0 in their expansions)
+--   starred           the table of cases
 use mathlib.Core.Path.{_≡_}
 use mathlib.Core.List.{List, [], _∷_}
 use Prim.Native.Nat.{ℕ, _+_, _*_, _^_, _≤_}
@@ -19,7 +23,7 @@ minus n = negℤ (pos n)
 
 pub data Case : Type 0 where
   -- need is e for order n and height h; k(n) is k
-  need-is-e : (n h e : ℕ) → Case
+  need-of : (n h e : ℕ) → Case
   lifts-are : (n k : ℕ) → Case
   -- lift with s lifts at e writes E
   lift-writes : (n e s : ℕ) (A E : List ℤ) → Case
@@ -37,19 +41,19 @@ abbrev pub Answers : (n : ℕ) (A : List ℤ) → Outcome → (List ℤ → List
 Answers n A o E = (L : List ℤ) → length L ≡ n * n → InverseGives n A L o (E L)
 
 -- what holds after a yes
-pub record Yes (n e k : ℕ) (A E : List ℤ) : Type 0 where
+pub record RuledYes (n e k : ℕ) (A E : List ℤ) : Type 0 where
   pub rule : RuleYes n A
   pub expansion : IsExpansion n (2 ^ e) k (entries n A) E
   pub verdict : VerdictGives n A (answer 0 e k)
 
 abbrev pub Claim : Case → Type 0
-Claim (need-is-e n h e) = IsNeed n h e
+Claim (need-of n h e) = IsNeed n h e
 Claim (lifts-are n k) = IsLifts n k
 Claim (lift-writes n e s A E) = (L : List ℤ) → length L ≡ (2 * s + 2) * (n * n) → LiftGives n s e A L 0 E
 Claim (lift-gives-6 n A v c) =
     (s e : ℕ) (L : List ℤ) → s ≤ 4 → Enough n (height A) e → e ≤ 32 → length L ≡ (2 * s + 2) * (n * n) → LiftGives n s e A L 6 L
-Claim (inverse-is n e k A E B) = Yes n e k A E × Answers n A (answer 0 e k) (λ L. B)
-Claim (too-wide n e k A E B) = Yes n e k A E × Answers n A (answer 8 e k) (λ L. L)
+Claim (inverse-is n e k A E B) = RuledYes n e k A E × Answers n A (answer 0 e k) (λ L. B)
+Claim (too-wide n e k A E B) = RuledYes n e k A E × Answers n A (answer 8 e k) (λ L. L)
 Claim (verdict-no-with n e k A m v c) = (¬ RuleYes n A) × (VerdictGives n A (answer 7 e k) × Answers n A (answer 7 e k) (λ L. L))
 
 abbrev pub Every : (Case → Type 0) → List Case → Type 0
@@ -75,10 +79,10 @@ thick-expansion = pos 1 ∷ minus 262145 ∷ pos 524288 ∷ pos 0 ∷ pos 1 ∷ 
 
 unfoldable pub starred : List Case
 starred =
-    need-is-e 16 16 14
-    ∷ need-is-e 16 17 15
-    ∷ need-is-e 10 100 16
-    ∷ need-is-e 32 (2 ^ 20) 32
+    need-of 16 16 14
+    ∷ need-of 16 17 15
+    ∷ need-of 10 100 16
+    ∷ need-of 32 (2 ^ 20) 32
     ∷ lifts-are 2 0
     ∷ lifts-are 3 1
     ∷ lifts-are 8 2

@@ -8,17 +8,19 @@ ghost use Rattle.numbers.specs.Says.{Says, Tells};
 ghost use Rattle.tables.specs.Checks.{Lawful};
 ghost use Rattle.numbers.specs.Numbers.{IsNeed, IsLifts};
 ghost use Rattle.verdict.specs.Verdict.{Narrow, outcomeOf, VerdictGives, InverseGives};
-ghost use Rattle.verdict.specs.Parts.{AllWide, Summed, Written, Wide};
+ghost use Rattle.verdict.specs.Parts.{NoneNarrow, Summed, Written, Wide};
 
 // The width: 2^37.
 const WIDTH: u64 = 137438953472;
 
+// The verdict: yes or no, each with exponent and lifts, or refused by a number.
 pub enum Ruling {
     Yes { exponent: u32, lifts: u32 },
     No { exponent: u32, lifts: u32 },
     Refused(u32),
 }
 
+// An answer as document 01 gives it: the number, and the exponent and the lifts beside it.
 pub struct Outcome {
     pub number: u32,
     pub exponent: u32,
@@ -112,7 +114,7 @@ pub fn verdict(n: usize, table: &[i64]) -> Ruling
 fn digits(n: usize, a: &[i64], buf: &mut [i64]) -> bool
     requires { ⌜ Lawful n (now a) ⌝ }
     requires { ⌜ length (now buf) ≡ 4096 ⌝ }
-    ensures { λ r. ⌜ Says (Summed n (now (a .entry)) (now (buf .exit))) (AllWide n (now (a .entry))) r ⌝ }
+    ensures { λ r. ⌜ Says (Summed n (now (a .entry)) (now (buf .exit))) (NoneNarrow n (now (a .entry))) r ⌝ }
 {
     if !lifting::start(n, 32, a, buf) {
         return false;

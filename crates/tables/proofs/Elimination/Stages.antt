@@ -85,7 +85,7 @@ pub none-more : (m k r : ℕ) (P : Matrix) → None m k r P → Cong (pos m) (P 
 none-more m k r P f e j l h = below-more (λ (j : ℕ). r ≤ j → Cong (pos m) (P r j) (pos 0)) k (λ j h l. f j l h) (λ l. e) j h l
 
 -- modulo any divisor t of m, from 2 on
-pub stuck : {n m r : ℕ} {A C P : Matrix} (t : ℕ) → Cong (pos t) (pos m) (pos 0) → 2 ≤ t → r < n → Going n m r A C P → None t n r P → ¬ HasInverseMod t n A
+pub stuck : {n m r : ℕ} {A C P : Matrix} (t : ℕ) → Cong (pos t) (pos m) (pos 0) → 2 ≤ t → r < n → Going n m r A C P → None t n r P → ¬ HasInverseMod n t A
 stuck {n} {m} {r} {A} {C} {P} t q two h g none = no-inverse t n W A r h (g .kept .kills t q W kills) one
   where
     x : ℤ
