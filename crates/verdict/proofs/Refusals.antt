@@ -15,7 +15,7 @@ use Rattle.tables.specs.Tables.{entries, height, HasWholeInverse}
 use Rattle.tables.specs.Checks.{Lawful}
 use Rattle.tables.proofs.TwoSided.{inverse-unique}
 use Rattle.tables.proofs.Views.{both?, order?}
-use Rattle.verdict.specs.Verdict.{IsNarrow, TooWide, answer, outcomeOf, Told, after-0, after-7, after-8, Values, verdictRefusals, VerdictGives, inverseRefusals, InverseGives}
+use Rattle.verdict.specs.Verdict.{IsNarrow, Narrow, TooWide, answer, outcomeOf, Told, after-0, after-7, after-8, Values, verdictRefusals, VerdictGives, inverseRefusals, InverseGives}
 use Rattle.verdict.specs.Parts.{NoneNarrow, Written}
 use Rattle.verdict.specs.declared.Ruling.{Ruling}
 use Rattle.verdict.specs.declared.Ruling.the-variants.{Yes, No, Refused}
@@ -146,12 +146,36 @@ stable (yes p) f = p
 stable (no g) f = absurd (f g)
 
 -- what a yes has let pass
-passed : (n : ℕ) (A : List ℤ) → Gives (verdictRefusals n A) 0 → Lawful n A
+pub passed : (n : ℕ) (A : List ℤ) → Gives (verdictRefusals n A) 0 → Lawful n A
 passed n A (inl (f, e)) = absurd (omega arith)
 passed n A (inr (o, inl (f, e))) = absurd (omega arith)
 passed n A (inr (o, inr (a, inl (f, e)))) = absurd (omega arith)
 passed n A (inr (o, inr (a, inr (p, g)))) =
     record { order = stable (order? n) o; size = stable (ℕ-discrete (length A) (n * n)) a; legal = stable (legal? A) p }
+
+-- and a no
+pub passed-no : (n : ℕ) (A : List ℤ) → Gives (verdictRefusals n A) 7 → Lawful n A × ¬ HasWholeInverse n (entries n A)
+passed-no n A (inl (f, e)) = absurd (omega arith)
+passed-no n A (inr (o, inl (f, e))) = absurd (omega arith)
+passed-no n A (inr (o, inr (a, inl (f, e)))) = absurd (omega arith)
+passed-no n A (inr (o, inr (a, inr (p, inl (f, e))))) =
+    (record { order = stable (order? n) o; size = stable (ℕ-discrete (length A) (n * n)) a; legal = stable (legal? A) p }, f)
+passed-no n A (inr (o, inr (a, inr (p, inr (w, e))))) = absurd (omega arith)
+
+-- an inverse that is given is narrow
+not-wide : (n : ℕ) (A L : List ℤ) → Gives (inverseRefusals n A L) 0 → ¬ TooWide n (entries n A)
+not-wide n A L (inl (f, e)) = absurd (omega arith)
+not-wide n A L (inr (o, inl (f, e))) = absurd (omega arith)
+not-wide n A L (inr (o, inr (a, inl (f, e)))) = absurd (omega arith)
+not-wide n A L (inr (o, inr (a, inr (p, inl (f, e))))) = absurd (omega arith)
+not-wide n A L (inr (o, inr (a, inr (p, inr (w, inl (f, e)))))) = absurd (omega arith)
+not-wide n A L (inr (o, inr (a, inr (p, inr (w, inr (f, e)))))) = f
+
+pub inverse-narrow : {n : ℕ} {A L : List ℤ} {o : Outcome} {E : List ℤ} → InverseGives n A L o E → o .number ≡ 0 → Narrow n (entries n E)
+inverse-narrow {n} {A} {L} {o} {E} p z i j h k =
+    stable (decLe (natAbs (entries n E i j)) (2 ^ 37)) λ f.
+    not-wide n A L (subst (Gives (inverseRefusals n A L)) z (p .number))
+    (record { inverse = entries n E; right = p .written z .right; passes = λ g. f (g i j h k) })
 
 -- what inverse gives after each case of the verdict's answer
 module _ {n : ℕ} {A : List ℤ} {r : Ruling} (says : VerdictGives n A (outcomeOf r)) where

@@ -1,7 +1,7 @@
--- How tight the statements are: what the calls' promises leave on some starred tables, by uniqueness. A build that refuses everything, one with a
+-- How tight the statements are: the verdict is the rule's; and what the calls' promises leave on some starred tables, by uniqueness. A build that refuses everything, one with a
 -- constant verdict, one that writes no block, one that fills later blocks with zeros, one that invents need or k, and one with remainders
 -- from 0 to X - 1 break one of these.
-use mathlib.Core.Path.{_≡_}
+use mathlib.Core.Path.{_≡_, refl}
 use mathlib.Core.List.{List, [], _∷_}
 use Prim.Native.Nat.{ℕ, zero, suc, _<_}
 use native.Mathlib.Nat.{not-suc-le-zero, le-of-suc-le-suc}
@@ -10,13 +10,25 @@ use lib.IntN.{ℤ, pos}
 use lib.ListN.{length, getD}
 use Rattle.lifting.specs.Lifting.{LiftGives}
 use Rattle.lifting.proofs.Unique.{lift-unique}
-use Rattle.verdict.specs.Verdict.{answer, outcomeOf, VerdictGives, InverseGives}
+use Rattle.verdict.specs.Verdict.{RuleYes, answer, outcomeOf, VerdictGives, InverseGives}
 use Rattle.verdict.specs.Starred.{minus, Case, lifts-are, Claim, Every, starred, thin}
 use Rattle.verdict.specs.declared.Ruling.{Ruling}
 use Rattle.verdict.specs.declared.Ruling.the-variants.{Yes, No}
 use Rattle.verdict.specs.declared.Outcome.{Outcome}
 use Rattle.verdict.proofs.Cases.{proved}
+use Rattle.verdict.proofs.Refusals.{passed, passed-no}
+use Rattle.verdict.proofs.Rule.{rule-right}
 use Rattle.verdict.proofs.Unique.{ruling-unique, inverse-call-unique}
+
+-- ---- the answer is the rule's
+
+pub yes-by-rule : {n e l : ℕ} {A : List ℤ} → VerdictGives n A (outcomeOf (Yes e l)) → RuleYes n A
+yes-by-rule {n} {e} {l} {A} v = rule-right (passed n A (v .number)) .1 (v .whole refl)
+
+pub no-by-rule : {n e l : ℕ} {A : List ℤ} → VerdictGives n A (outcomeOf (No e l)) → ¬ RuleYes n A
+no-by-rule {n} {e} {l} {A} v y = let p = passed-no n A (v .number) in p .1 (rule-right (p .0) .0 y)
+
+-- ---- what is left on some starred tables
 
 -- line i of the starred table, from 0
 line-of : (i : ℕ) (cs : List Case) → Every Claim cs → i < length cs → Claim (getD cs i (lifts-are 1 0))
@@ -40,6 +52,11 @@ verdict-of-1 r p = ruling-unique 1 (pos 1 ∷ []) r (Yes 14 0) p (line 10 (omega
 pub verdict-of-3 : (r : Ruling) → VerdictGives 1 (pos 3 ∷ []) (outcomeOf r) → r ≡ No 14 0
 unfolding starred
 verdict-of-3 r p = ruling-unique 1 (pos 3 ∷ []) r (No 14 0) p (line 13 (omega arith) .1 .0)
+
+-- [24929 0; 0 673], whose determinant is 1 modulo 2^19
+pub verdict-of-673 : (r : Ruling) → VerdictGives 2 (pos 24929 ∷ pos 0 ∷ pos 0 ∷ pos 673 ∷ []) (outcomeOf r) → r ≡ No 19 0
+unfolding starred
+verdict-of-673 r p = ruling-unique 2 (pos 24929 ∷ pos 0 ∷ pos 0 ∷ pos 673 ∷ []) r (No 19 0) p (line 27 (omega arith) .1 .0)
 
 -- the 3 by 3 table: need 25, one lift, and the inverse
 pub verdict-of-thin : (r : Ruling) → VerdictGives 3 thin (outcomeOf r) → r ≡ Yes 25 1
