@@ -10,7 +10,7 @@ use lib.ListN.{length}
 use denote.Ref.{RefT, ptr, now}
 use Rattle.numbers.specs.Limits.{IsOrder}
 use Rattle.tables.specs.Views.{Stretch, Same, HasRow, RowGives}
-use Rattle.tables.proofs.Buffers.{square-small}
+use Rattle.tables.proofs.Places.{square-small}
 
 -- ---- a view that is there or not
 

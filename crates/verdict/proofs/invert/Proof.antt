@@ -1,5 +1,5 @@
 use Rattle.verdict.proofs.Width.{not-narrow, written}
-use Rattle.tables.proofs.Buffers.{square-small}
+use Rattle.tables.proofs.Places.{square-small}
 use Rattle.numbers.proofs.Says.{say-yes, say-no}
 use borrow.Author.Tests.{not-true, not-false}
 use native.Mathlib.Omega.{arith}

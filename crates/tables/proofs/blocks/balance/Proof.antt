@@ -6,7 +6,8 @@ use Rattle.tables.specs.Tables.{block}
 use Rattle.tables.proofs.Wrote.{Wrote, wrote-none, wrote-more}
 use lib.Pow.{pow-pos}
 use Rattle.numbers.specs.Remainder.{rem}
-use Rattle.tables.proofs.Buffers.{square-small, flat, put-of, low-flat, balance-gives}
+use Rattle.tables.proofs.Places.{square-small, flat, put-of}
+use Rattle.tables.proofs.Kernels.{low-flat, balance-gives}
 use Rattle.tables.proofs.blocks.balance.Statement.{statement}
 use Rattle.tables.proofs.blocks.balance.Tie as tie
 

@@ -6,7 +6,8 @@ use lib.ListN.{getD}
 use Rattle.numbers.proofs.Machine.{rd, rd-ok, rd-got}
 use Rattle.tables.specs.Tables.{block}
 use Rattle.tables.proofs.Wrote.{Wrote, wrote-none, wrote-more}
-use Rattle.tables.proofs.Buffers.{square-small, flat, put-of, kept-at, extend-gives, extend-room}
+use Rattle.tables.proofs.Places.{square-small, flat, put-of, kept-at}
+use Rattle.tables.proofs.Kernels.{extend-gives, extend-room}
 use Rattle.tables.proofs.blocks.extend.Statement.{statement}
 use Rattle.tables.proofs.blocks.extend.Tie as tie
 

@@ -5,7 +5,7 @@ use borrow.Author.Needs.{needs}
 use Rattle.numbers.proofs.Machine.{rd-got}
 use Rattle.numbers.proofs.Sum.{δ}
 use Rattle.tables.proofs.Wrote.{Wrote, wrote-none, wrote-more}
-use Rattle.tables.proofs.Buffers.{square-small, flat, flat-at, row-below, same-row, next-row, put-of}
+use Rattle.tables.proofs.Places.{square-small, flat, flat-at, row-below, same-row, next-row, put-of}
 use Rattle.tables.proofs.blocks.identity.Statement.{statement}
 use Rattle.tables.proofs.blocks.identity.Tie as tie
 

@@ -1,6 +1,6 @@
-use Rattle.tables.proofs.Answers.{low-of, low-at}
+use Rattle.tables.proofs.Kernels.{low-of, low-flat}
 use Rattle.numbers.proofs.Says.{say-yes, say-no}
-use Rattle.tables.proofs.Buffers.{square-small}
+use Rattle.tables.proofs.Places.{square-small}
 use Rattle.numbers.proofs.Machine.{rd-ok}
 use lib.ListN.{getD}
 use lib.IntN.{pos, natAbs}
@@ -49,7 +49,7 @@ returns : tie.Need-returns Inv-loop μ-loop
 returns c =
     let l = c .before .before .before .before in
     let g = l .before in
-    say-no (λ f. let h = low-at (g .args .buf .now) (g .args .o) (l .loop .t) (g .pre .0) (c .before .before .before .loop-test .taken) f in let e = size (c .before) in omega arith)
+    say-no (λ f. let h = low-flat (g .args .buf .now) (g .args .o) (g .pre .0) f (l .loop .t) (c .before .before .before .loop-test .taken) in let e = size (c .before) in omega arith)
 
 add-t : tie.Need-add-t Inv-loop μ-loop
 add-t c = omega arith
