@@ -8,7 +8,7 @@ use lib.IntN.{ℤ}
 use lib.ListN.{length}
 use Rattle.numbers.specs.Limits.{IsOrder}
 use Rattle.numbers.specs.Refusals.{Gives, Lowest}
-use Rattle.numbers.proofs.Refusals.{gives-lowest}
+use Rattle.numbers.proofs.Answers.Refusals.{gives-lowest}
 use Rattle.verdict.specs.Verdict.{outcomeOf, verdictRefusals, VerdictGives, inverseRefusals, InverseGives}
 use Rattle.verdict.specs.declared.Ruling.{Ruling}
 use Rattle.verdict.specs.declared.Outcome.{Outcome}

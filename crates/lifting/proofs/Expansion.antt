@@ -9,17 +9,17 @@ use native.Mathlib.Nat.{pow-suc, pow-zero, one-mul, one-le-pow, two-pow-succ}
 use lib.IntN.{ℤ, pos, natAbs}
 use lib.Pow.{pow-add, pow-mono, pow-pos}
 use Rattle.numbers.specs.Numbers.{Enough}
-use Rattle.numbers.proofs.Sum.{δ}
+use Rattle.numbers.proofs.Algebra.Sum.{δ}
 use Rattle.tables.specs.Tables.{Matrix, Below, _≈⟨_⟩_, _⊟_, _⊙_, _·⟨_⟩_, entries, block, height, HasInverseMod}
-use Rattle.tables.proofs.Heights.{height-at}
+use Rattle.tables.proofs.Checking.Heights.{height-at}
 use Rattle.lifting.specs.Lifting.{IsExpansion, LiftGives}
 use Rattle.lifting.specs.Meaning.{modulus, lifted}
-use Rattle.lifting.proofs.Powers.{power-mod, expansion-base}
-use Rattle.lifting.proofs.Meaning.{upto-means}
-use Rattle.lifting.proofs.Bound.{upto-bounded}
-use Rattle.lifting.proofs.Exists.{expansion-of}
-use Rattle.lifting.proofs.Unique.{expansion-same}
-use Rattle.lifting.proofs.Refusals.{lift-enough}
+use Rattle.lifting.proofs.Expansions.Powers.{power-mod, expansion-base}
+use Rattle.lifting.proofs.Expansions.Meaning.{upto-means}
+use Rattle.lifting.proofs.Expansions.Bound.{upto-bounded}
+use Rattle.lifting.proofs.Expansions.Exists.{expansion-of}
+use Rattle.lifting.proofs.Expansions.Unique.{expansion-same}
+use Rattle.lifting.proofs.Calls.Refusals.{lift-enough}
 
 -- it exists exactly if A has an inverse modulo p, where X = p^e
 pub expansion-exists : (p e n s : ℕ) → 2 ≤ p → 1 ≤ e → (A : Matrix) → ((L : List ℤ) × IsExpansion n (p ^ e) s A L) ↔ HasInverseMod n p A

@@ -13,7 +13,7 @@ use Rattle.sheets.specs.Sheet.{decimal, line, rows, IsSheet, IsBeginning
 use Rattle.sheets.specs.Place.{lineAt, columnAt}
 use Rattle.sheets.specs.Answer.{byte, ended, ReadSays, refused}
 use Rattle.sheets.specs.Model.{State, Head, Body, Dead, run}
-use Rattle.sheets.proofs.Exact.{beginning, no-beginning, head-open, body-open}
+use Rattle.sheets.proofs.Stages.Exact.{beginning, no-beginning, head-open, body-open}
 
 abbrev bytes : String → List ℕ
 bytes none = []

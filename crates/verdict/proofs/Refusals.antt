@@ -9,12 +9,12 @@ use lib.IntN.{ℤ, natAbs}
 use lib.ListN.{length}
 use Rattle.numbers.specs.Limits.{IsOrder, Legal}
 use Rattle.numbers.specs.Refusals.{Gives, Lowest}
-use Rattle.numbers.proofs.Refusals.{gives-lowest}
+use Rattle.numbers.proofs.Answers.Refusals.{gives-lowest}
 use Rattle.numbers.specs.Numbers.{IsNeed, IsLifts}
 use Rattle.tables.specs.Tables.{entries, height, HasWholeInverse}
 use Rattle.tables.specs.Checks.{Lawful}
-use Rattle.tables.proofs.TwoSided.{inverse-unique}
-use Rattle.tables.proofs.Views.{both?, order?}
+use Rattle.tables.proofs.Inverses.TwoSided.{inverse-unique}
+use Rattle.tables.proofs.Checking.Views.{both?, order?}
 use Rattle.verdict.specs.Verdict.{IsNarrow, Narrow, TooWide, answer, outcomeOf, Told, after-0, after-7, after-8, Values, verdictRefusals, VerdictGives, inverseRefusals, InverseGives}
 use Rattle.verdict.specs.Parts.{NoneNarrow, Written}
 use Rattle.verdict.specs.declared.Ruling.{Ruling}

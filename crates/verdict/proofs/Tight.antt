@@ -9,7 +9,7 @@ use native.Mathlib.Omega.{arith}
 use lib.IntN.{ℤ, pos}
 use lib.ListN.{length, getD}
 use Rattle.lifting.specs.Lifting.{LiftGives}
-use Rattle.lifting.proofs.Unique.{lift-unique}
+use Rattle.lifting.proofs.Expansions.Unique.{lift-unique}
 use Rattle.verdict.specs.Verdict.{RuleYes, answer, outcomeOf, VerdictGives, InverseGives}
 use Rattle.verdict.specs.Starred.{minus, Case, lifts-are, Claim, Every, starred, thin}
 use Rattle.verdict.specs.declared.Ruling.{Ruling}

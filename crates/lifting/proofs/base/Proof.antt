@@ -1,5 +1,5 @@
 use borrow.Author.Needs.{needs}
-use Rattle.lifting.proofs.Starting.{base-2, base-done}
+use Rattle.lifting.proofs.Calls.Starting.{base-2, base-done}
 use Rattle.lifting.proofs.base.Statement.{statement}
 use Rattle.lifting.proofs.base.Tie as tie
 

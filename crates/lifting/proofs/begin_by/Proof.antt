@@ -1,8 +1,8 @@
 use native.Mathlib.Omega.{arith}
 use borrow.Author.Needs.{needs}
 use borrow.Author.Tests.{not-true, not-false}
-use Rattle.tables.proofs.Places.{square-small}
-use Rattle.lifting.proofs.Ready.{begun-no, begun-yes}
+use Rattle.tables.proofs.Buffers.Places.{square-small}
+use Rattle.lifting.proofs.Calls.Ready.{begun-no, begun-yes}
 use Rattle.lifting.proofs.begin_by.Statement.{statement}
 use Rattle.lifting.proofs.begin_by.Tie as tie
 

@@ -1,5 +1,5 @@
 use borrow.Author.Needs.{needs}
-use Rattle.lifting.proofs.Stepping.{digit-1, digit-2, digit-done}
+use Rattle.lifting.proofs.Calls.Stepping.{digit-1, digit-2, digit-done}
 use Rattle.lifting.proofs.digit.Statement.{statement}
 use Rattle.lifting.proofs.digit.Tie as tie
 

@@ -1,5 +1,5 @@
 use borrow.Author.Needs.{needs}
-use Rattle.lifting.proofs.Starting.{double-1, double-2, double-done}
+use Rattle.lifting.proofs.Calls.Starting.{double-1, double-2, double-done}
 use Rattle.lifting.proofs.double.Statement.{statement}
 use Rattle.lifting.proofs.double.Tie as tie
 

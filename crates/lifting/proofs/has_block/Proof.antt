@@ -2,8 +2,8 @@ use native.Mathlib.Omega.{arith}
 use borrow.Author.Needs.{needs}
 use borrow.Author.Tests.{not-true, not-false}
 use Rattle.numbers.specs.Limits.{IsOrder}
-use Rattle.numbers.proofs.Says.{say-no, say-leb}
-use Rattle.lifting.proofs.Blocks.{size-small}
+use Rattle.numbers.proofs.Answers.Says.{say-no, say-leb}
+use Rattle.lifting.proofs.Calls.Blocks.{size-small}
 use Rattle.lifting.proofs.has_block.Statement.{statement}
 use Rattle.lifting.proofs.has_block.Tie as tie
 

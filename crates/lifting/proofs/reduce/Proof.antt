@@ -1,5 +1,5 @@
 use borrow.Author.Needs.{needs}
-use Rattle.lifting.proofs.Stepping.{reduce-1, reduce-2, reduce-done}
+use Rattle.lifting.proofs.Calls.Stepping.{reduce-1, reduce-2, reduce-done}
 use Rattle.lifting.proofs.reduce.Statement.{statement}
 use Rattle.lifting.proofs.reduce.Tie as tie
 

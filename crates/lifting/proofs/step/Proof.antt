@@ -1,5 +1,5 @@
 use borrow.Author.Needs.{needs}
-use Rattle.lifting.proofs.Stepping.{step-1, step-2, step-3, step-4, step-5, step-done}
+use Rattle.lifting.proofs.Calls.Stepping.{step-1, step-2, step-3, step-4, step-5, step-done}
 use Rattle.lifting.proofs.step.Statement.{statement}
 use Rattle.lifting.proofs.step.Tie as tie
 

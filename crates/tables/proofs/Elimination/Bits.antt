@@ -17,10 +17,10 @@ use lib.Signed.{mag, quotZ, remZ}
 use mir.Syntax.{w64}
 use mir.Val.{SFits, toZ, ofZ}
 use Rattle.numbers.specs.Says.{Says}
-use Rattle.numbers.proofs.Says.{say-yes, say-no}
-use Rattle.numbers.proofs.RingSolver.{ring, if_is_by_then_, #_, ⊝_, _⊕_, _⊖_, _⊗_, _≐_}
-use Rattle.numbers.proofs.Sum.{δ, δ-same, δ-other}
-use Rattle.numbers.proofs.Congruence.{Cong, cong-of-eq, cong-sym, cong-trans}
+use Rattle.numbers.proofs.Answers.Says.{say-yes, say-no}
+use Rattle.numbers.proofs.Algebra.RingSolver.{ring, if_is_by_then_, #_, ⊝_, _⊕_, _⊖_, _⊗_, _≐_}
+use Rattle.numbers.proofs.Algebra.Sum.{δ, δ-same, δ-other}
+use Rattle.numbers.proofs.Remainders.Congruence.{Cong, cong-of-eq, cong-sym, cong-trans}
 use Rattle.tables.specs.Parity.{bits, xored}
 use Rattle.tables.proofs.Elimination.Steps.{Stepped}
 

@@ -10,11 +10,11 @@ use lib.Bits.{bitXor}
 use lib.IntN.{ℤ, pos}
 use lib.ListN.{length, getD, set, length-set}
 use lib.Seq.{getD-set-same, getD-set-other}
-use Rattle.numbers.proofs.Sum.{δ}
-use Rattle.numbers.proofs.Congruence.{Cong, cong-of-eq, cong-sym, cong-trans}
+use Rattle.numbers.proofs.Algebra.Sum.{δ}
+use Rattle.numbers.proofs.Remainders.Congruence.{Cong, cong-of-eq, cong-sym, cong-trans}
 use Rattle.tables.specs.Tables.{Matrix, _·⟨_⟩_, CongM}
 use Rattle.tables.specs.Parity.{InverseMod2, bits, Sized, Loaded, Unpacked}
-use Rattle.tables.proofs.Matrix.{congM-eq, congM-refl, congM-trans, congM-·}
+use Rattle.tables.proofs.Algebra.Matrix.{congM-eq, congM-refl, congM-trans, congM-·}
 use Rattle.tables.proofs.Elimination.Bits.{bit-lt, bit-zero, bit-xor, bit-same, bit-other}
 
 -- ---- a word, bit by bit

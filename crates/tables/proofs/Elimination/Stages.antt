@@ -7,14 +7,14 @@ use native.Mathlib.Decide.{decLt}
 use native.Mathlib.Omega.{arith}
 use borrow.Author.Count.{below-more}
 use lib.IntN.{ℤ, pos, _+ℤ_, _*ℤ_}
-use Rattle.numbers.proofs.RingSolver.{ring, #_, ⊝_, _⊕_, _⊖_, _⊗_, _≐_}
-use Rattle.numbers.proofs.Sum.{δ, δ-same, δ-other}
-use Rattle.numbers.proofs.Congruence.{Cong, cong-of-eq, cong-refl, cong-sym, cong-down, cong-trans, cong-near, cong-+, cong-*, cong-sub, cong-sum}
+use Rattle.numbers.proofs.Algebra.RingSolver.{ring, #_, ⊝_, _⊕_, _⊖_, _⊗_, _≐_}
+use Rattle.numbers.proofs.Algebra.Sum.{δ, δ-same, δ-other}
+use Rattle.numbers.proofs.Remainders.Congruence.{Cong, cong-of-eq, cong-refl, cong-sym, cong-down, cong-trans, cong-near, cong-+, cong-*, cong-sub, cong-sum}
 use Rattle.tables.specs.Tables.{Matrix, _⊟_, _·⟨_⟩_, CongM, HasInverseMod}
 use Rattle.tables.specs.Elimination.{Going, None}
-use Rattle.tables.proofs.Matrix.{·-idʳ}
-use Rattle.tables.proofs.MatrixSolver.{matrix, modular, given_is_by_and_then_, 𝟘ᵉ, 𝟙, _⊟ᵉ_, _·ᵉ_, _⊙ᵉ_, _≑_}
-use Rattle.tables.proofs.Inverses.{no-inverse}
+use Rattle.tables.proofs.Algebra.Matrix.{·-idʳ}
+use Rattle.tables.proofs.Algebra.MatrixSolver.{matrix, modular, given_is_by_and_then_, 𝟘ᵉ, 𝟙, _⊟ᵉ_, _·ᵉ_, _⊙ᵉ_, _≑_}
+use Rattle.tables.proofs.Inverses.Laws.{no-inverse}
 use Rattle.tables.proofs.Elimination.Steps.{Stepped, going-add}
 
 -- ---- the start

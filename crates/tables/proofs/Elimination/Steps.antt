@@ -6,9 +6,9 @@ use Prim.Native.Nat.{ℕ, _≤_, _<_}
 use native.Mathlib.Decide.{ℕ-discrete}
 use native.Mathlib.Omega.{arith}
 use lib.IntN.{ℤ, pos, _+ℤ_, _*ℤ_}
-use Rattle.numbers.proofs.RingSolver.{ring, #_, _⊕_, _⊖_, _⊗_, _≐_}
-use Rattle.numbers.proofs.Sum.{sum, sum-cong, sum-+, sum-scaleˡ, δ, δ-other}
-use Rattle.numbers.proofs.Congruence.{Cong, cong-of-eq, cong-refl, cong-sym, cong-down, cong-trans, cong-+, cong-*, cong-sub, cong-sum}
+use Rattle.numbers.proofs.Algebra.RingSolver.{ring, #_, _⊕_, _⊖_, _⊗_, _≐_}
+use Rattle.numbers.proofs.Algebra.Sum.{sum, sum-cong, sum-+, sum-scaleˡ, δ, δ-other}
+use Rattle.numbers.proofs.Remainders.Congruence.{Cong, cong-of-eq, cong-refl, cong-sym, cong-down, cong-trans, cong-+, cong-*, cong-sub, cong-sum}
 use Rattle.tables.specs.Tables.{Matrix, _·⟨_⟩_, CongM}
 use Rattle.tables.specs.Elimination.{Kept, Going}
 

@@ -7,8 +7,8 @@ use native.Mathlib.Omega.{arith}
 use lib.Bits.{bitXor}
 use lib.IntN.{pos, _+ℤ_}
 use lib.ListN.{getD}
-use Rattle.numbers.proofs.Sum.{δ-other}
-use Rattle.numbers.proofs.Congruence.{Cong, cong-of-eq, cong-trans, cong-+, cong-*, cong-refl}
+use Rattle.numbers.proofs.Algebra.Sum.{δ-other}
+use Rattle.numbers.proofs.Remainders.Congruence.{Cong, cong-of-eq, cong-trans, cong-+, cong-*, cong-refl}
 use Rattle.tables.specs.Tables.{Matrix}
 use Rattle.tables.specs.Elimination.{Going}
 use Rattle.tables.specs.Parity.{bits, xored, Sized, Pivot}

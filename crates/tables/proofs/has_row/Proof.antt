@@ -1,8 +1,8 @@
 use native.Mathlib.Omega.{arith}
 use borrow.Author.Needs.{needs}
 use borrow.Author.Tests.{not-true, not-false}
-use Rattle.numbers.proofs.Says.{say-no, say-ltb}
-use Rattle.tables.proofs.Places.{square-small}
+use Rattle.numbers.proofs.Answers.Says.{say-no, say-ltb}
+use Rattle.tables.proofs.Buffers.Places.{square-small}
 use Rattle.tables.proofs.has_row.Statement.{statement}
 use Rattle.tables.proofs.has_row.Tie as tie
 

@@ -1,6 +1,6 @@
 use native.Mathlib.Omega.{arith}
 use borrow.Author.Needs.{needs}
-use Rattle.tables.proofs.Views.{row-fits, row-there, row-none}
+use Rattle.tables.proofs.Checking.Views.{row-fits, row-there, row-none}
 use Rattle.tables.proofs.row.Statement.{statement}
 use Rattle.tables.proofs.row.Tie as tie
 

@@ -1,6 +1,6 @@
 use Rattle.verdict.proofs.Width.{even-wide, rest-wide, high-wide, extend-asks, summed}
-use Rattle.lifting.proofs.Holding.{in-buffer, to-start, holds-first, holds-stage, enough-32}
-use Rattle.numbers.proofs.Says.{say-yes, say-no}
+use Rattle.lifting.proofs.Calls.Holding.{in-buffer, to-start, holds-first, holds-stage, enough-32}
+use Rattle.numbers.proofs.Answers.Says.{say-yes, say-no}
 use borrow.Author.Tests.{not-true, not-false}
 use native.Mathlib.Omega.{arith}
 use Prim.Native.Nat.{_-_}

@@ -1,6 +1,6 @@
 use Rattle.verdict.proofs.Width.{not-narrow, written}
-use Rattle.tables.proofs.Places.{square-small}
-use Rattle.numbers.proofs.Says.{say-yes, say-no}
+use Rattle.tables.proofs.Buffers.Places.{square-small}
+use Rattle.numbers.proofs.Answers.Says.{say-yes, say-no}
 use borrow.Author.Tests.{not-true, not-false}
 use native.Mathlib.Omega.{arith}
 use mathlib.Core.Path.{refl}

@@ -1,6 +1,6 @@
 use Rattle.verdict.proofs.Width.{narrow-low, low-narrow}
-use Rattle.lifting.proofs.Holding.{in-buffer}
-use Rattle.numbers.proofs.Says.{say-map}
+use Rattle.lifting.proofs.Calls.Holding.{in-buffer}
+use Rattle.numbers.proofs.Answers.Says.{say-map}
 use native.Mathlib.Omega.{arith}
 use Rattle.verdict.proofs.narrow.Statement.{statement}
 use Rattle.verdict.proofs.narrow.Tie as tie

@@ -1,8 +1,8 @@
 use mathlib.Core.Path.{refl, _≡_, sym, _∙_}
 use Rattle.verdict.proofs.Rule.{judged}
-use Rattle.lifting.proofs.Holding.{in-buffer, to-start, Holds, holds-first, holds-stage, holds-step, need-upto}
-use Rattle.tables.proofs.Inverses.{whole-mod}
-use Rattle.numbers.proofs.Says.{say-no}
+use Rattle.lifting.proofs.Calls.Holding.{in-buffer, to-start, Holds, holds-first, holds-stage, holds-step, need-upto}
+use Rattle.tables.proofs.Inverses.Laws.{whole-mod}
+use Rattle.numbers.proofs.Answers.Says.{say-no}
 use lib.ListN.{length}
 use borrow.Author.Tests.{not-true, not-false}
 use native.Mathlib.Omega.{arith}

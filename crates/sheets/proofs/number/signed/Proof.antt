@@ -2,7 +2,7 @@ use native.Mathlib.Omega.{arith}
 use borrow.Author.Needs.{needs}
 use mir.Syntax.{w64}
 use mir.ValLaws.{toZ-pos}
-use Rattle.sheets.proofs.Signs.{negative-fits, negative-is}
+use Rattle.sheets.proofs.Reading.Signs.{negative-fits, negative-is}
 use Rattle.sheets.proofs.number.signed.Statement.{statement}
 use Rattle.sheets.proofs.number.signed.Tie as tie
 

@@ -3,8 +3,8 @@ use mathlib.Core.List.{[], _∷_}
 use native.Mathlib.Nat.{div-lt-self, mod-lt}
 use native.Mathlib.Omega.{arith}
 use Rattle.sheets.specs.Sheet.{decimal}
-use Rattle.sheets.proofs.Decimal.{decimal-digit, decimal-split}
-use Rattle.sheets.proofs.Puts.{put-join}
+use Rattle.sheets.proofs.Text.Decimal.{decimal-digit, decimal-split}
+use Rattle.sheets.proofs.Bytes.Puts.{put-join}
 use borrow.Author.Needs.{needs}
 use Prim.Native.Nat.{ℕ, _+_, _/_, _%_, _<_, _≤_}
 use borrow.Fn.Kinds.{In}

@@ -1,4 +1,4 @@
-use Rattle.sheets.proofs.Puts.{put-byte, put-none}
+use Rattle.sheets.proofs.Bytes.Puts.{put-byte, put-none}
 use borrow.Author.Needs.{needs}
 use Rattle.sheets.proofs.writing.put_byte.Statement.{statement}
 use Rattle.sheets.proofs.writing.put_byte.Tie as tie

@@ -1,4 +1,4 @@
-use Rattle.sheets.proofs.Written.{put-below, put-above}
+use Rattle.sheets.proofs.Bytes.Written.{put-below, put-above}
 use borrow.Author.Needs.{needs}
 use Rattle.sheets.proofs.writing.put_figure.Statement.{statement}
 use Rattle.sheets.proofs.writing.put_figure.Tie as tie

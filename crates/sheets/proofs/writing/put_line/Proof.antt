@@ -3,8 +3,8 @@ use native.Mathlib.Omega.{arith}
 use mathlib.Core.Path.{ap}
 use lib.ListN.{length, drop, drop-of-length-le}
 use Rattle.sheets.specs.Sheet.{line}
-use Rattle.sheets.proofs.Puts.{Partly, partly-start, partly-all, partly-length}
-use Rattle.sheets.proofs.Written.{line-turn}
+use Rattle.sheets.proofs.Bytes.Puts.{Partly, partly-start, partly-all, partly-length}
+use Rattle.sheets.proofs.Bytes.Written.{line-turn}
 use Rattle.sheets.proofs.writing.put_line.Statement.{statement}
 use Rattle.sheets.proofs.writing.put_line.Tie as tie
 

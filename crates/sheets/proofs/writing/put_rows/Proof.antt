@@ -4,8 +4,8 @@ use borrow.Author.Needs.{needs}
 use denote.Ref.{now}
 use lib.ListN.{length, drop}
 use Rattle.sheets.specs.Sheet.{rows}
-use Rattle.sheets.proofs.Puts.{Partly, partly-length}
-use Rattle.sheets.proofs.Written.{rows-start, rows-turn, rows-all}
+use Rattle.sheets.proofs.Bytes.Puts.{Partly, partly-length}
+use Rattle.sheets.proofs.Bytes.Written.{rows-start, rows-turn, rows-all}
 use Rattle.sheets.proofs.writing.put_rows.Statement.{statement}
 use Rattle.sheets.proofs.writing.put_rows.Tie as tie
 

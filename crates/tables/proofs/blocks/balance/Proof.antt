@@ -3,11 +3,11 @@ use Prim.Native.Nat.{_*_, _-_, _^_, _≤_}
 use native.Mathlib.Omega.{arith}
 use Rattle.numbers.proofs.Machine.{rd-ok}
 use Rattle.tables.specs.Tables.{block}
-use Rattle.tables.proofs.Wrote.{Wrote, wrote-none, wrote-more}
+use Rattle.tables.proofs.Buffers.Wrote.{Wrote, wrote-none, wrote-more}
 use lib.Pow.{pow-pos}
 use Rattle.numbers.specs.Remainder.{rem}
-use Rattle.tables.proofs.Places.{square-small, flat, put-of}
-use Rattle.tables.proofs.Kernels.{low-flat, balance-gives}
+use Rattle.tables.proofs.Buffers.Places.{square-small, flat, put-of}
+use Rattle.tables.proofs.Buffers.Kernels.{low-flat, balance-gives}
 use Rattle.tables.proofs.blocks.balance.Statement.{statement}
 use Rattle.tables.proofs.blocks.balance.Tie as tie
 

@@ -1,7 +1,7 @@
 use borrow.Author.Needs.{needs}
 use native.Mathlib.Omega.{arith}
 use lib.Arith.{digits-lt}
-use Rattle.tables.proofs.Places.{square-small}
+use Rattle.tables.proofs.Buffers.Places.{square-small}
 use Rattle.tables.proofs.blocks.cell.Statement.{statement}
 use Rattle.tables.proofs.blocks.cell.Tie as tie
 

@@ -4,10 +4,10 @@ use native.Mathlib.Omega.{arith}
 use lib.IntN.{_*ℤ_}
 use mir.Syntax.{w64}
 use mir.Val.{toZ}
-use Rattle.numbers.proofs.Sum.{sum}
+use Rattle.numbers.proofs.Algebra.Sum.{sum}
 use Rattle.numbers.proofs.Machine.{rd-ok, rd-got}
 use Rattle.tables.specs.Tables.{tableAt}
-use Rattle.tables.proofs.Kernels.{dot-room, dot-more}
+use Rattle.tables.proofs.Buffers.Kernels.{dot-room, dot-more}
 use Rattle.tables.proofs.blocks.dot.Statement.{statement}
 use Rattle.tables.proofs.blocks.dot.Tie as tie
 

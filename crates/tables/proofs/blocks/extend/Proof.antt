@@ -5,9 +5,9 @@ use lib.IntN.{ℤ, pos, _+ℤ_, _*ℤ_}
 use lib.ListN.{getD}
 use Rattle.numbers.proofs.Machine.{rd, rd-ok, rd-got}
 use Rattle.tables.specs.Tables.{block}
-use Rattle.tables.proofs.Wrote.{Wrote, wrote-none, wrote-more}
-use Rattle.tables.proofs.Places.{square-small, flat, put-of, kept-at}
-use Rattle.tables.proofs.Kernels.{extend-gives, extend-room}
+use Rattle.tables.proofs.Buffers.Wrote.{Wrote, wrote-none, wrote-more}
+use Rattle.tables.proofs.Buffers.Places.{square-small, flat, put-of, kept-at}
+use Rattle.tables.proofs.Buffers.Kernels.{extend-gives, extend-room}
 use Rattle.tables.proofs.blocks.extend.Statement.{statement}
 use Rattle.tables.proofs.blocks.extend.Tie as tie
 

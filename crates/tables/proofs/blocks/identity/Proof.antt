@@ -3,9 +3,9 @@ use Prim.Native.Nat.{_+_, _*_, _-_, _≤_, _<_}
 use native.Mathlib.Omega.{arith}
 use borrow.Author.Needs.{needs}
 use Rattle.numbers.proofs.Machine.{rd-got}
-use Rattle.numbers.proofs.Sum.{δ}
-use Rattle.tables.proofs.Wrote.{Wrote, wrote-none, wrote-more}
-use Rattle.tables.proofs.Places.{square-small, flat, flat-at, row-below, same-row, next-row, put-of}
+use Rattle.numbers.proofs.Algebra.Sum.{δ}
+use Rattle.tables.proofs.Buffers.Wrote.{Wrote, wrote-none, wrote-more}
+use Rattle.tables.proofs.Buffers.Places.{square-small, flat, flat-at, row-below, same-row, next-row, put-of}
 use Rattle.tables.proofs.blocks.identity.Statement.{statement}
 use Rattle.tables.proofs.blocks.identity.Tie as tie
 

@@ -3,9 +3,9 @@ use Prim.Native.Nat.{_+_, _*_, _-_, _≤_, _<_}
 use native.Mathlib.Omega.{arith}
 use Rattle.numbers.proofs.Machine.{rd-got}
 use Rattle.tables.specs.Tables.{_·⟨_⟩_, block}
-use Rattle.tables.proofs.Wrote.{Wrote, wrote-none, wrote-more}
-use Rattle.tables.proofs.Places.{square-small, flat, row-below, same-row, next-row, put-of}
-use Rattle.tables.proofs.Kernels.{product-asks, product-gives}
+use Rattle.tables.proofs.Buffers.Wrote.{Wrote, wrote-none, wrote-more}
+use Rattle.tables.proofs.Buffers.Places.{square-small, flat, row-below, same-row, next-row, put-of}
+use Rattle.tables.proofs.Buffers.Kernels.{product-asks, product-gives}
 use Rattle.tables.proofs.blocks.product.Statement.{statement}
 use Rattle.tables.proofs.blocks.product.Tie as tie
 

@@ -6,9 +6,9 @@ use lib.ListN.{getD}
 use lib.Signed.{shrZ}
 use Rattle.numbers.proofs.Machine.{rd, rd-ok, rd-got}
 use Rattle.tables.specs.Tables.{_·⟨_⟩_, block, entries}
-use Rattle.tables.proofs.Wrote.{Wrote, wrote-none, wrote-more}
-use Rattle.tables.proofs.Places.{square-small, flat, flat-at, row-below, same-row, next-row, put-of}
-use Rattle.tables.proofs.Kernels.{gap, shrink-asks, shrink-reads, shrink-sum, shrink-room}
+use Rattle.tables.proofs.Buffers.Wrote.{Wrote, wrote-none, wrote-more}
+use Rattle.tables.proofs.Buffers.Places.{square-small, flat, flat-at, row-below, same-row, next-row, put-of}
+use Rattle.tables.proofs.Buffers.Kernels.{gap, shrink-asks, shrink-reads, shrink-sum, shrink-room}
 use Rattle.tables.proofs.blocks.shrink.Statement.{statement}
 use Rattle.tables.proofs.blocks.shrink.Tie as tie
 

@@ -1,6 +1,6 @@
 use mathlib.Core.Path.{sym, ap, _∙_}
 use Prim.Native.Nat.{ℕ, _-_}
-use Rattle.numbers.proofs.Sum.{δ, δ-same, δ-other}
+use Rattle.numbers.proofs.Algebra.Sum.{δ, δ-same, δ-other}
 use Rattle.tables.proofs.blocks.unit.Statement.{statement}
 use Rattle.tables.proofs.blocks.unit.Tie as tie
 

@@ -5,9 +5,9 @@ use lib.IntN.{pos}
 use borrow.Author.Count.{below-more}
 use lib.ListN.{getD}
 use Rattle.numbers.proofs.Machine.{bits-zero, zero-bits}
-use Rattle.numbers.proofs.Says.{say-yes, say-no}
-use Rattle.tables.proofs.Places.{square-small}
-use Rattle.tables.proofs.Kernels.{zero-of, zero-at}
+use Rattle.numbers.proofs.Answers.Says.{say-yes, say-no}
+use Rattle.tables.proofs.Buffers.Places.{square-small}
+use Rattle.tables.proofs.Buffers.Kernels.{zero-of, zero-at}
 use Rattle.tables.proofs.blocks.vanishes.Statement.{statement}
 use Rattle.tables.proofs.blocks.vanishes.Tie as tie
 

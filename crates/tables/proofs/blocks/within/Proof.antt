@@ -1,6 +1,6 @@
-use Rattle.tables.proofs.Kernels.{low-of, low-flat}
-use Rattle.numbers.proofs.Says.{say-yes, say-no}
-use Rattle.tables.proofs.Places.{square-small}
+use Rattle.tables.proofs.Buffers.Kernels.{low-of, low-flat}
+use Rattle.numbers.proofs.Answers.Says.{say-yes, say-no}
+use Rattle.tables.proofs.Buffers.Places.{square-small}
 use Rattle.numbers.proofs.Machine.{rd-ok}
 use lib.ListN.{getD}
 use lib.IntN.{pos, natAbs}

@@ -17,8 +17,8 @@ use lib.Signed.{mag}
 use Rattle.numbers.specs.Limits.{IsEntry}
 use Rattle.numbers.proofs.Machine.{rd, rd-ok}
 use Rattle.tables.specs.Checks.{Inside}
-use Rattle.tables.proofs.Places.{square-small}
-use Rattle.tables.proofs.Heights.{legal-of}
+use Rattle.tables.proofs.Buffers.Places.{square-small}
+use Rattle.tables.proofs.Checking.Heights.{legal-of}
 use Rattle.tables.proofs.checks.first_outside.Statement.{statement}
 use Rattle.tables.proofs.checks.first_outside.Tie as tie
 

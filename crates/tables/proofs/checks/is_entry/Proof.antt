@@ -1,6 +1,6 @@
 use borrow.Author.Needs.{needs}
 use Rattle.numbers.proofs.Machine.{rd-is}
-use Rattle.tables.proofs.Heights.{entry-test}
+use Rattle.tables.proofs.Checking.Heights.{entry-test}
 use Rattle.tables.proofs.checks.is_entry.Statement.{statement}
 use Rattle.tables.proofs.checks.is_entry.Tie as tie
 

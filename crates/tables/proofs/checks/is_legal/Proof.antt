@@ -1,6 +1,6 @@
 use borrow.Author.Needs.{needs}
-use Rattle.numbers.proofs.Says.{say-yes, say-no}
-use Rattle.tables.proofs.Heights.{finds-illegal, finds-legal}
+use Rattle.numbers.proofs.Answers.Says.{say-yes, say-no}
+use Rattle.tables.proofs.Checking.Heights.{finds-illegal, finds-legal}
 use Rattle.tables.proofs.checks.is_legal.Statement.{statement}
 use Rattle.tables.proofs.checks.is_legal.Tie as tie
 

@@ -1,5 +1,5 @@
 use native.Mathlib.Omega.{arith}
-use Rattle.numbers.proofs.Says.{say-no, say-leb}
+use Rattle.numbers.proofs.Answers.Says.{say-no, say-leb}
 use Rattle.tables.proofs.checks.is_order.Statement.{statement}
 use Rattle.tables.proofs.checks.is_order.Tie as tie
 

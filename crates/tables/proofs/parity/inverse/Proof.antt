@@ -1,6 +1,6 @@
 use mathlib.Core.Path.{refl}
 use borrow.Author.Needs.{needs}
-use Rattle.numbers.proofs.Says.{say-yes, say-no}
+use Rattle.numbers.proofs.Answers.Says.{say-yes, say-no}
 use Rattle.tables.proofs.Elimination.Loading.{read-back}
 use Rattle.tables.proofs.parity.inverse.Statement.{statement}
 use Rattle.tables.proofs.parity.inverse.Tie as tie

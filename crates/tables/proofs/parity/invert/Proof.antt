@@ -7,7 +7,7 @@ use Rattle.tables.specs.Tables.{entries}
 use Rattle.tables.specs.Elimination.{Going}
 use Rattle.tables.specs.Parity.{bits, Sized}
 use Rattle.tables.proofs.Elimination.Stages.{found, stuck}
-use Rattle.numbers.proofs.Says.{say-yes, say-no}
+use Rattle.numbers.proofs.Answers.Says.{say-yes, say-no}
 use Rattle.tables.proofs.parity.invert.Statement.{statement}
 use Rattle.tables.proofs.parity.invert.Tie as tie
 

@@ -2,8 +2,8 @@ use mathlib.Core.Path.{_≡_}
 use Prim.Native.Nat.{_-_, _≤_}
 use native.Mathlib.Omega.{arith}
 use lib.IntN.{pos}
-use Rattle.numbers.proofs.Sum.{δ}
-use Rattle.numbers.proofs.Congruence.{cong-of-eq}
+use Rattle.numbers.proofs.Algebra.Sum.{δ}
+use Rattle.numbers.proofs.Remainders.Congruence.{cong-of-eq}
 use Rattle.tables.specs.Tables.{entries}
 use Rattle.tables.specs.Parity.{Sized}
 use Rattle.tables.proofs.Elimination.Stages.{going-first}

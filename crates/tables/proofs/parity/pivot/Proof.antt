@@ -2,7 +2,7 @@ use mathlib.Core.Path.{_≡_, sym, ap, _∙_}
 use Prim.Native.Nat.{_-_, _≤_}
 use native.Mathlib.Omega.{arith}
 use lib.IntN.{pos}
-use Rattle.numbers.proofs.Congruence.{cong-of-eq}
+use Rattle.numbers.proofs.Remainders.Congruence.{cong-of-eq}
 use Rattle.tables.specs.Elimination.{None}
 use Rattle.tables.specs.Parity.{bits}
 use Rattle.tables.proofs.Elimination.Stages.{none-more}

@@ -5,7 +5,7 @@ use mathlib.Core.Logic.{⊎-elim}
 use Prim.Native.Nat.{ℕ}
 use native.Mathlib.Omega.{arith}
 use borrow.Author.Needs.{needs}
-use Rattle.numbers.proofs.Says.{say-yes, say-no}
+use Rattle.numbers.proofs.Answers.Says.{say-yes, say-no}
 use Rattle.tables.proofs.Elimination.Words.{Ready, ready-here, ready-join}
 use Rattle.tables.proofs.parity.settle.Statement.{statement}
 use Rattle.tables.proofs.parity.settle.Tie as tie

@@ -5,8 +5,8 @@ use native.Mathlib.Omega.{arith}
 use lib.Arith.{digits-lt}
 use Rattle.numbers.proofs.Machine.{rd-got}
 use Rattle.tables.specs.Parity.{bits}
-use Rattle.tables.proofs.Wrote.{Wrote, wrote-none, wrote-more}
-use Rattle.tables.proofs.Places.{square-small, flat, flat-at}
+use Rattle.tables.proofs.Buffers.Wrote.{Wrote, wrote-none, wrote-more}
+use Rattle.tables.proofs.Buffers.Places.{square-small, flat, flat-at}
 use Rattle.tables.proofs.parity.unpack.Statement.{statement}
 use Rattle.tables.proofs.parity.unpack.Tie as tie
 

@@ -3,8 +3,8 @@ use Prim.Native.Nat.{_*_, _-_}
 use native.Mathlib.Omega.{arith}
 use borrow.Author.Needs.{needs}
 use Rattle.sheets.specs.declared.number.Form.{Form}
-use Rattle.sheets.proofs.Entries.{Reading, reading-order, reading-cells, reading-done, reading-next, reading-bad}
-use Rattle.sheets.proofs.Turns.{ready-sane, ready-inside}
+use Rattle.sheets.proofs.Reading.Entries.{Reading, reading-order, reading-cells, reading-done, reading-next, reading-bad}
+use Rattle.sheets.proofs.Reading.Turns.{ready-sane, ready-inside}
 use Rattle.sheets.proofs.cursor.Cursor.entries.Statement.{statement}
 use Rattle.sheets.proofs.cursor.Cursor.entries.Tie as tie
 

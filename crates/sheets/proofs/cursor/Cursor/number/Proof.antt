@@ -3,7 +3,7 @@ use Prim.Native.Nat.{_-_}
 use native.Mathlib.Omega.{arith}
 use lib.ListN.{length}
 use borrow.Author.Needs.{needs}
-use Rattle.sheets.proofs.Scan.{Going, going-end, going-past, going-on, going-value, going-stop}
+use Rattle.sheets.proofs.Reading.Scan.{Going, going-end, going-past, going-on, going-value, going-stop}
 use Rattle.sheets.proofs.cursor.Cursor.number.Statement.{statement}
 use Rattle.sheets.proofs.cursor.Cursor.number.Tie as tie
 

@@ -1,0 +1,9 @@
+pub mod Rules
+pub mod Exists
+pub mod Unique
+pub mod Meaning
+pub mod Bound
+pub mod Residues
+pub mod Powers
+pub mod Upto
+pub mod Check

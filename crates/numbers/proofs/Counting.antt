@@ -1,0 +1,4 @@
+pub mod Pigeonhole
+pub mod Digits
+pub mod Search
+pub mod Leasts

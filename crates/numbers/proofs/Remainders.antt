@@ -1,0 +1,4 @@
+pub mod Congruence
+pub mod Division
+pub mod Remainder
+pub mod Shift

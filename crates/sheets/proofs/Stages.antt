@@ -1,0 +1,5 @@
+pub mod Numerals
+pub mod States
+pub mod Begins
+pub mod Complete
+pub mod Exact

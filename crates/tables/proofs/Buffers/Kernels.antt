@@ -1,0 +1,141 @@
+-- What the kernels of blocks need and give at each place: bounds, sums of products, a division, an extension.
+use mathlib.Core.Path.{_≡_, sym, ap, ap₂, _∙_, subst}
+use mathlib.Core.List.{List}
+use Prim.Native.Nat.{ℕ, _+_, _*_, _-_, _/_, _%_, _^_, _≤_, _<_}
+use native.Mathlib.Nat.{mul-le-mul, mul-le-mul-right, suc-mul, mod-lt, div-lt-iff-lt-mul}
+use native.Mathlib.Omega.{arith}
+use lib.Arith.{digits-lt}
+use lib.IntN.{ℤ, pos, natAbs, _+ℤ_, _-ℤ_, _*ℤ_}
+use lib.ListN.{getD}
+use Rattle.numbers.proofs.Algebra.IntOrder.{*ℤ-bound, natAbs-sub}
+use Rattle.numbers.specs.Numbers.{IsRem}
+use Rattle.numbers.specs.Remainder.{rem}
+use Rattle.numbers.proofs.Remainders.Remainder.{rem-is, rem-unique}
+use Rattle.numbers.proofs.Algebra.Sum.{sum, sum-one, sum-bound}
+use Rattle.tables.specs.Tables.{Matrix, _≈⟨_⟩_, _·⟨_⟩_, block, entries, tableAt}
+use Rattle.numbers.specs.Limits.{IsOrder}
+use Rattle.tables.specs.Buffer.{Low, Exact, Dot, Product, Shrink, Extend}
+use Rattle.tables.proofs.Algebra.Matrix.{·-cong, ·-bound}
+use Rattle.tables.proofs.Buffers.Wrote.{Wrote}
+use Rattle.tables.proofs.Buffers.Places.{flat, flat-at, flat-block, row-below, wrote-rest}
+
+-- ---- bounds
+
+pub low-≈ : {n c : ℕ} {A B : Matrix} → A ≈⟨ n ⟩ B → Low n c A → Low n c B
+low-≈ {n} {c} e l = record { low = λ i j h k. subst (λ (z : ℤ). natAbs z ≤ c) (e i j h k) (l .low i j h k) }
+
+pub exact-≈ : {n : ℕ} {A B C D : Matrix} → A ≈⟨ n ⟩ C → B ≈⟨ n ⟩ D → Exact n A B → Exact n C D
+exact-≈ e f x = record { c = x .c; d = x .d; left = low-≈ e (x .left); right = low-≈ f (x .right); room = x .room }
+
+-- a part of the sum, and one product more
+pub dot-room : {n : ℕ} {A : List ℤ} {p : ℕ} {B : List ℤ} {q i j : ℕ} → Dot n A p B q i j → (k : ℕ) → k < n
+    → natAbs (sum k (λ l. tableAt n A p i l *ℤ tableAt n B q l j)) + natAbs (tableAt n A p i k) * natAbs (tableAt n B q k j) < 2 ^ 63
+dot-room {n} {A} {p} {B} {q} {i} {j} r k h =
+    let x = r .exact in
+    let c : ℕ = x .c in
+    let d : ℕ = x .d in
+    let s : natAbs (sum k (λ l. tableAt n A p i l *ℤ tableAt n B q l j)) ≤ k * (c * d) =
+    sum-bound k (λ l. tableAt n A p i l *ℤ tableAt n B q l j) (c * d)
+    (λ l m. *ℤ-bound (tableAt n A p i l) (tableAt n B q l j) (x .left .low i l (r .row) (below l m h)) (x .right .low l j (below l m h) (r .column))) in
+    let t : natAbs (tableAt n A p i k) * natAbs (tableAt n B q k j) ≤ c * d = mul-le-mul (x .left .low i k (r .row) h) (x .right .low k j h (r .column)) in
+    omega (arith, x .room, suc-mul k (c * d), mul-le-mul-right (c * d) h)
+  where
+    below : (l : ℕ) → l < k → k < n → l < n
+    below l a b = omega arith
+
+-- the sum after one product more
+pub dot-more : (n : ℕ) (A : List ℤ) (p : ℕ) (B : List ℤ) (q i j k : ℕ)
+    → sum k (λ l. tableAt n A p i l *ℤ tableAt n B q l j) +ℤ tableAt n A p i k *ℤ tableAt n B q k j ≡ sum (k + 1) (λ l. tableAt n A p i l *ℤ tableAt n B q l j)
+dot-more n A p B q i j k = sym (sum-one k (λ l. tableAt n A p i l *ℤ tableAt n B q l j))
+
+-- ---- a product, while block o is written
+
+module _ {n : ℕ} {L : List ℤ} {p q o : ℕ} (m : Product n L p q o) {f : ℕ → ℤ} {t : ℕ} {K : List ℤ} (w : Wrote f (o * (n * n)) t L K) (l : t < n * n) (i j : ℕ) (e : i * n + j ≡ t) (h : j < n) where
+  p-kept : block n K p ≈⟨ n ⟩ block n L p
+  p-kept = wrote-rest n o (omega arith) w p (m .apart)
+
+  q-kept : block n K q ≈⟨ n ⟩ block n L q
+  q-kept = wrote-rest n o (omega arith) w q (m .apart′)
+
+  pub product-asks : Dot n K (p * (n * n)) K (q * (n * n)) i j
+  product-asks = record {
+    order = m .order;
+    left = let a = m .left in let b = w .long in omega arith;
+    right = let a = m .right in let b = w .long in omega arith;
+    row = row-below n t i j e l;
+    column = h;
+    exact = exact-≈ (λ i j a b. sym (p-kept i j a b)) (λ i j a b. sym (q-kept i j a b)) (m .exact);
+  }
+
+  pub product-gives : (block n K p ·⟨ n ⟩ block n K q) i j ≡ flat n (block n L p ·⟨ n ⟩ block n L q) t
+  product-gives = ·-cong n p-kept q-kept i j (row-below n t i j e l) h ∙ sym (flat-at n (block n L p ·⟨ n ⟩ block n L q) t i j e h)
+
+pub at-zero : (n : ℕ) (A : List ℤ) → tableAt n A 0 ≈⟨ n ⟩ entries n A
+at-zero n A i j h k = let e : 0 + (i * n + j) ≡ i * n + j = omega arith in ap (λ (m : ℕ). getD A m (pos 0)) e
+
+-- ---- a division, while block s is written
+
+-- the entry to be divided
+abbrev pub gap : ℕ → List ℤ → List ℤ → ℕ → ℕ → Matrix
+gap n A L m s i j = block n L s i j -ℤ (entries n A ·⟨ n ⟩ block n L m) i j
+
+module _ {n e : ℕ} {A L : List ℤ} {m s : ℕ} (r : Shrink n e A L m s) {f : ℕ → ℤ} {t : ℕ} {K : List ℤ} (w : Wrote f (s * (n * n)) t L K) (l : t < n * n) (i j : ℕ) (q : i * n + j ≡ t) (h : j < n) where
+  m-kept : block n K m ≈⟨ n ⟩ block n L m
+  m-kept = wrote-rest n s (omega arith) w m (r .apart)
+
+  pub shrink-asks : Dot n A 0 K (m * (n * n)) i j
+  shrink-asks = record {
+    order = r .order;
+    left = let a = r .size in omega arith;
+    right = let a = r .factor in let b = w .long in omega arith;
+    row = row-below n t i j q l;
+    column = h;
+    exact = exact-≈ (λ i j a b. sym (at-zero n A i j a b)) (λ i j a b. sym (m-kept i j a b)) (r .exact);
+  }
+
+  -- the entry that is read
+  pub shrink-reads : getD K (s * (n * n) + t) (pos 0) ≡ block n L s i j
+  shrink-reads = w .after (s * (n * n) + t) (omega arith) ∙ ap (λ (z : ℕ). getD L (s * (n * n) + z) (pos 0)) (sym q)
+
+  -- the sum that is subtracted
+  pub shrink-sum : (tableAt n A 0 ·⟨ n ⟩ block n K m) i j ≡ (entries n A ·⟨ n ⟩ block n L m) i j
+  shrink-sum = ·-cong n (at-zero n A) m-kept i j (row-below n t i j q l) h
+
+  pub shrink-room : natAbs (gap n A L m s i j) < 2 ^ 63
+  shrink-room =
+      let x = r .exact in
+      let u : i < n = row-below n t i j q l in
+      omega (arith, natAbs-sub (block n L s i j) ((entries n A ·⟨ n ⟩ block n L m) i j), r .room .low i j u h, x .room, ·-bound n (entries n A) (block n L m) {a = x .c} {b = x .d} (x .left .low) (x .right .low) i j u h)
+
+-- a bound of a block, by places
+pub low-flat : {n c : ℕ} (L : List ℤ) (b : ℕ) → IsOrder n → Low n c (block n L b) → (t : ℕ) → t < n * n → natAbs (getD L (b * (n * n) + t) (pos 0)) ≤ c
+low-flat {n} {c} L b o l t h =
+    subst (λ (z : ℤ). natAbs z ≤ c) (flat-block n L b t) (l .low (t / n) (t % n) (div-lt-iff-lt-mul {k = n} (o .from) .1 h) (mod-lt t (o .from)))
+
+-- a bound from every place
+pub low-of : {n c : ℕ} (L : List ℤ) (o : ℕ) → ((k : ℕ) → k < n * n → natAbs (getD L (o * (n * n) + k) (pos 0)) ≤ c) → Low n c (block n L o)
+low-of {n} L o f = record { low = λ i j h k. f (i * n + j) (digits-lt h k) }
+
+-- ---- entry by entry
+
+pub balance-gives : (X : ℕ) → 0 < X → (n : ℕ) (L : List ℤ) (o t : ℕ) {v r : ℤ} → v ≡ getD L (o * (n * n) + t) (pos 0) → IsRem X v r → r ≡ flat n (λ i j. rem X (block n L o i j)) t
+balance-gives X p n L o t {v} {r} e m =
+    rem-unique (subst (λ (z : ℤ). IsRem X z r) (e ∙ sym (flat-block n L o t)) m) (rem-is X p (flat n (block n L o) t))
+
+pub extend-gives : (e n : ℕ) (L : List ℤ) (c d t : ℕ) → getD L (c * (n * n) + t) (pos 0) +ℤ pos (2 ^ e) *ℤ getD L (d * (n * n) + t) (pos 0) ≡ flat n (λ i j. block n L c i j +ℤ pos (2 ^ e) *ℤ block n L d i j) t
+extend-gives e n L c d t = sym (ap₂ (λ x y. x +ℤ pos (2 ^ e) *ℤ y) (flat-block n L c t) (flat-block n L d t))
+
+pub extend-room : {n e : ℕ} {L : List ℤ} {c d : ℕ} → Extend n e L c d → (t : ℕ) → t < n * n → natAbs (getD L (c * (n * n) + t) (pos 0)) + 2 ^ e * natAbs (getD L (d * (n * n) + t) (pos 0)) < 2 ^ 63
+extend-room {n} {e} {L} {c} {d} r t h =
+    let o = r .order in
+    let q = r .room (t / n) (t % n) (div-lt-iff-lt-mul {k = n} (o .from) .1 h) (mod-lt t (o .from)) in
+    subst (λ (z : ℤ). natAbs (getD L (c * (n * n) + t) (pos 0)) + 2 ^ e * natAbs z < 2 ^ 63) (flat-block n L d t)
+    (subst (λ (z : ℤ). natAbs z + 2 ^ e * natAbs (flat n (block n L d) t) < 2 ^ 63) (flat-block n L c t) q)
+
+-- a block that is all zero, by places
+pub zero-of : {n : ℕ} (L : List ℤ) (o : ℕ) → ((k : ℕ) → k < n * n → getD L (o * (n * n) + k) (pos 0) ≡ pos 0) → block n L o ≈⟨ n ⟩ (λ i j. pos 0)
+zero-of {n} L o f i j h k = f (i * n + j) (digits-lt h k)
+
+pub zero-at : {n : ℕ} (L : List ℤ) (o t : ℕ) → IsOrder n → t < n * n → block n L o ≈⟨ n ⟩ (λ i j. pos 0) → getD L (o * (n * n) + t) (pos 0) ≡ pos 0
+zero-at {n} L o t r l z =
+    sym (flat-block n L o t) ∙ z (t / n) (t % n) (div-lt-iff-lt-mul {k = n} (r .from) .1 l) (mod-lt t (r .from))

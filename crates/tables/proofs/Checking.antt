@@ -1,0 +1,4 @@
+pub mod TableTests
+pub mod Lawful
+pub mod Heights
+pub mod Views

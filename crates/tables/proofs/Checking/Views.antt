@@ -1,0 +1,59 @@
+-- Views: the stretch is one place and one list, and so is what `row` hands back.
+use mathlib.Core.Path.{_≡_, sym, _∙_}
+use mathlib.Core.List.{List}
+use Prim.Native.Nat.{ℕ, _+_, _*_, _≤_}
+use native.Mathlib.Nat.{suc-mul, mul-le-mul-right}
+use native.Mathlib.Decide.{ℕ-discrete, decLt, decLe}
+use native.Mathlib.Omega.{arith}
+use lib.IntN.{ℤ}
+use lib.ListN.{length}
+use denote.Ref.{RefT, ptr, now}
+use Rattle.numbers.specs.Limits.{IsOrder}
+use Rattle.tables.specs.Views.{Stretch, Same, HasRow, RowGives}
+use Rattle.tables.proofs.Buffers.Places.{square-small}
+
+-- ---- a view that is there or not
+
+pub stretch-unique : {t r s : RefT (List ℤ)} {start size : ℕ} → Stretch t r start size → Stretch t s start size → Same r s
+stretch-unique p q = record { memory = p .memory ∙ sym (q .memory); place = p .place ∙ sym (q .place); list = p .list ∙ sym (q .list) }
+
+-- ---- row
+
+pub row-fits : {n size i : ℕ} → HasRow n size i → (i * n + n ≤ size) × (size ≤ 1024)
+row-fits {n} {size} {i} h =
+    let a = mul-le-mul-right n (h .inside) in
+    let b = suc-mul i n in
+    let c = square-small (h .order .upto) in
+    omega (arith, h .whole)
+
+module _ {n i : ℕ} {t r : RefT (List ℤ)} where
+  pub row-there : HasRow n (length (now t)) i → Stretch t r (i * n) n → RowGives n t i r
+  row-there h s = record { there = λ g. s; none = λ f. absurd (f h) }
+
+  pub row-none : ¬ HasRow n (length (now t)) i → Stretch t r 0 0 → RowGives n t i r
+  row-none f s = record { there = λ h. absurd (f h); none = λ g. s }
+
+-- ---- what `row` hands back is one
+
+pub both? : {P Q : Type 0} → Dec P → Dec Q → Dec (P × Q)
+both? (yes p) (yes q) = yes (p, q)
+both? (yes p) (no f) = no (λ h. f (h .1))
+both? (no f) d = no (λ h. f (h .0))
+
+pub iff? : {P Q : Type 0} → (P → Q) → (Q → P) → Dec P → Dec Q
+iff? f g (yes p) = yes (f p)
+iff? f g (no h) = no (λ q. h (g q))
+
+pub order? : (n : ℕ) → Dec (IsOrder n)
+order? n = iff? (λ h. record { from = h .0; upto = h .1 }) (λ o. (o .from, o .upto)) (both? (decLe 1 n) (decLe n 32))
+
+row? : (n size i : ℕ) → Dec (HasRow n size i)
+row? n size i =
+    iff? (λ h. record { order = h .0; whole = h .1 .0; inside = h .1 .1 }) (λ r. (r .order, (r .whole, r .inside)))
+    (both? (order? n) (both? (ℕ-discrete size (n * n)) (decLt i n)))
+
+pub row-unique : {n i : ℕ} {t r s : RefT (List ℤ)} → RowGives n t i r → RowGives n t i s → Same r s
+row-unique {n} {i} {t} p q = elim (row? n (length (now t)) i) [
+  | yes h ↦ stretch-unique (p .there h) (q .there h)
+  | no f ↦ stretch-unique (p .none f) (q .none f)
+]
