@@ -1,21 +1,27 @@
 """Runs every check of the modules below and counts them. usage: all.py FOLDER-OF-THE-BUILT-LIBRARIES"""
 import sys
+import time
 import traceback
 
-import calls
 import house
+import lifts
+import tables
+import texts
+from library import Library
 
 passed = failed = 0
-for module in (house, calls):
-    for check in module.checks(sys.argv[1]):
+library = Library(sys.argv[1])
+for module in (house, tables, lifts, texts):
+    for check in module.checks(library):
+        began = time.time()
         try:
             said = check()
         except Exception:  # a check that fails says why
             failed += 1
-            print(f"FAILED {module.__name__}.{check.__name__}")
+            print(f"FAILED {module.__name__}.{check.__name__}", flush=True)
             traceback.print_exc(file=sys.stdout)
         else:
             passed += 1
-            print(f"ok {module.__name__}.{check.__name__}: {said}")
+            print(f"ok {module.__name__}.{check.__name__}: {said} ({time.time() - began:.1f} s)", flush=True)
 print(f"{passed} passed, {failed} failed")
 sys.exit(failed != 0)
