@@ -2,16 +2,16 @@
 use mathlib.Core.Bool.{Bool, _&&_}
 use mathlib.Core.List.{List}
 use Prim.Native.Nat.{ℕ, _+_, _*_}
-use lib.Dec.{T, eqb, eqb→eq, eqb-refl}
+use lib.Dec.{T, eqb, eqb→eq}
 use lib.IntN.{ℤ, pos}
 use lib.ListN.{length}
 use Rattle.numbers.proofs.Algebra.Sum.{δ}
-use Rattle.numbers.proofs.Testing.Tests.{both, together, all, all-at, all-of}
-use Rattle.numbers.proofs.Testing.RuleTests.{isRem, isRem-sound, isRem-complete}
+use Rattle.numbers.proofs.Testing.Tests.{both, all, all-at}
+use Rattle.numbers.proofs.Testing.RuleTests.{isRem, isRem-sound}
 use Rattle.tables.specs.Tables.{Matrix, _⊟_, _⊙_, _·⟨_⟩_, block}
-use Rattle.tables.proofs.Checking.TableTests.{below, below-at, below-of, same, same-sound, same-complete}
+use Rattle.tables.proofs.Checking.TableTests.{below, below-at, same, same-sound}
 use Rattle.lifting.specs.Lifting.{IsDigit, IsExpansion}
-use Rattle.lifting.proofs.Expansions.Rules.{start-digit, digit-start}
+use Rattle.lifting.proofs.Expansions.Rules.{digit-start}
 
 module _ (n X : ℕ) (A B R D S : Matrix) where
   abbrev rems? : ℕ → ℕ → Bool
@@ -28,13 +28,6 @@ module _ (n X : ℕ) (A B R D S : Matrix) where
         remainder = λ i j h k. isRem-sound X ((B ·⟨ n ⟩ R) i j) (D i j) (below-at n rems? (p .0) i j h k);
         residue = same-sound n (R ⊟ A ·⟨ n ⟩ D) (pos X ⊙ S) (p .1);
       }
-
-  pub isDigit-complete : IsDigit n X A B R D S → T isDigit
-  unfolding isDigit
-  isDigit-complete p =
-      together (below n rems?) (same n (R ⊟ A ·⟨ n ⟩ D) (pos X ⊙ S))
-      (below-of n rems? (λ i j h k. isRem-complete X ((B ·⟨ n ⟩ R) i j) (D i j) (p .remainder i j h k)))
-      (same-complete n (R ⊟ A ·⟨ n ⟩ D) (pos X ⊙ S) (p .residue))
 
 module _ (n X s : ℕ) (A : Matrix) (L : List ℤ) where
   abbrev B : Matrix
@@ -65,12 +58,3 @@ module _ (n X s : ℕ) (A : Matrix) (L : List ℤ) where
           step = λ t h. record { digit = isDigit-sound n X A B (square t) (block n L (2 * t + 2)) (block n L (2 * t + 3)) (all-at s stepAt (q .1) t h) };
         };
       }
-
-  pub isExpansion-complete : IsExpansion n X s A L → T isExpansion
-  unfolding isExpansion
-  isExpansion-complete p =
-      together (eqb (length L) ((2 * s + 2) * (n * n))) (startAt && all s stepAt)
-      (rw (p .size) (eqb-refl ((2 * s + 2) * (n * n))))
-      (together startAt (all s stepAt)
-      (isDigit-complete n X A B δ B (block n L 1) (start-digit (p .blocks .start)))
-      (all-of s stepAt (λ t h. isDigit-complete n X A B (square t) (block n L (2 * t + 2)) (block n L (2 * t + 3)) (p .blocks .step t h .digit))))

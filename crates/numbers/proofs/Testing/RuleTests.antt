@@ -1,4 +1,4 @@
--- The number rules as tests that compute: each is passed exactly where its rule holds.
+-- The number rules as tests that compute, and what a passed test says.
 use mathlib.Core.Path.{_≡_, sym, ap, _∙_}
 use mathlib.Core.Bool.{Bool, _&&_}
 use Prim.Native.Nat.{ℕ, suc, _+_, _*_, _/_, _%_}
@@ -9,7 +9,7 @@ use lib.Signed.{ltZ, leZ, ltZ-yes, leZ-yes}
 use Rattle.numbers.specs.Numbers.{Balanced, Cong, IsRem}
 use Rattle.numbers.proofs.Algebra.IntRing.{natAbs-*ℤ}
 use Rattle.numbers.proofs.Algebra.RingSolver.{ring, _⊗_, ⊝_, _≐_}
-use Rattle.numbers.proofs.Testing.Tests.{both, together}
+use Rattle.numbers.proofs.Testing.Tests.{both}
 
 abbrev pub balanced : ℕ → ℤ → Bool
 balanced X v = ltZ (negℤ (pos X)) (pos 2 *ℤ v) && leZ (pos 2 *ℤ v) (pos X)
@@ -47,9 +47,3 @@ pub congruent-complete : (X : ℕ) (a b : ℤ) → Cong (pos X) a b → T (congr
 congruent-complete X a b c =
     let e : natAbs (a -ℤ b) % X ≡ 0 = ap (λ z. natAbs z % X) (c .eqn) ∙ ap (λ (m : ℕ). m % X) (natAbs-*ℤ (pos X) (c .quot)) ∙ mul-mod-right X (natAbs (c .quot)) in
     rw e tt
-
-pub balanced-complete : (X : ℕ) (v : ℤ) → Balanced X v → T (balanced X v)
-balanced-complete X v b = together (ltZ (negℤ (pos X)) (pos 2 *ℤ v)) (leZ (pos 2 *ℤ v) (pos X)) (b .above .lt) (b .upto .le)
-
-pub isRem-complete : (X : ℕ) (v r : ℤ) → IsRem X v r → T (isRem X v r)
-isRem-complete X v r p = together (balanced X r) (congruent X v r) (balanced-complete X r (p .balanced)) (congruent-complete X v r (p .congruent))

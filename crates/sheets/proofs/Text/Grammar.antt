@@ -7,7 +7,7 @@ use mathlib.Core.List.{List, [], _∷_, _++_, append-assoc, append-nil}
 use Prim.Native.Nat.{ℕ, _+_, _*_, _-_, _≤_, _<_}
 use native.Mathlib.Omega.{arith}
 use Rattle.sheets.specs.Sheet.{decimal}
-use Rattle.sheets.proofs.Text.Decimal.{decimal-digit, decimal-more, by-digits}
+use Rattle.sheets.proofs.Text.Decimal.{decimal-digit, decimal-more}
 
 abbrev pub valueFrom : ℕ → List ℕ → ℕ
 valueFrom v [] = v
@@ -21,36 +21,6 @@ abbrev pub Lead : List ℕ → Type 0
 Lead [] = ⊥
 Lead (b ∷ []) = Unit {0}
 Lead (b ∷ c ∷ l) = b ≡ 48 → ⊥
-
-value-snoc : (v : ℕ) (l : List ℕ) (d : ℕ) → valueFrom v (l ++ ((48 + d) ∷ [])) ≡ valueFrom v l * 10 + d
-value-snoc v [] d = omega arith
-value-snoc v (b ∷ l) d = value-snoc (v * 10 + (b - 48)) l d
-
-digits-snoc : (l : List ℕ) (d : ℕ) → d < 10 → Digits l → Digits (l ++ ((48 + d) ∷ []))
-digits-snoc [] d h p = (omega arith, omega arith, tt)
-digits-snoc (b ∷ l) d h p = (p .0, p .1, digits-snoc l d h (p .2))
-
-lead-snoc : (l : List ℕ) (x : ℕ) → Lead l → (l ≡ 48 ∷ [] → ⊥) → Lead (l ++ (x ∷ []))
-lead-snoc [] x p q = absurd p
-lead-snoc (b ∷ []) x p q = λ e. q (ap (λ (y : ℕ). y ∷ []) e)
-lead-snoc (b ∷ c ∷ l) x p q = p
-
-pub decimal-value : (m : ℕ) → valueFrom 0 (decimal m) ≡ m
-decimal-value = by-digits (λ (m : ℕ). valueFrom 0 (decimal m) ≡ m)
-    (λ d h. ap (valueFrom 0) (decimal-digit d h) ∙ (omega arith))
-    (λ m d p h next. ap (valueFrom 0) (decimal-more m d p h) ∙ value-snoc 0 (decimal m) d ∙ ap (λ (x : ℕ). x * 10 + d) next)
-
-pub decimal-digits : (m : ℕ) → Digits (decimal m)
-decimal-digits = by-digits (λ (m : ℕ). Digits (decimal m))
-    (λ d h. rw (decimal-digit d h) (omega arith, omega arith, tt))
-    (λ m d p h next. rw (decimal-more m d p h) (digits-snoc (decimal m) d h next))
-
-pub decimal-lead : (m : ℕ) → Lead (decimal m)
-decimal-lead = by-digits (λ (m : ℕ). Lead (decimal m))
-    (λ d h. rw (decimal-digit d h) tt)
-    (λ m d p h next. rw (decimal-more m d p h)
-    (lead-snoc (decimal m) (48 + d) next (λ (e : decimal m ≡ 48 ∷ []).
-    let z : m ≡ 0 = sym (decimal-value m) ∙ ap (valueFrom 0) e in omega arith)))
 
 value-text : (v : ℕ) (l : List ℕ) → 1 ≤ v → Digits l → decimal (valueFrom v l) ≡ decimal v ++ l
 value-text v [] p d = sym (append-nil (decimal v))

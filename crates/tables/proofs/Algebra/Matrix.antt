@@ -9,7 +9,7 @@ use Rattle.numbers.proofs.Algebra.IntRing.{*ℤ-assoc, *ℤ-left-comm, *ℤ-dis
 use Rattle.numbers.proofs.Algebra.IntOrder.{*ℤ-bound}
 use Rattle.numbers.proofs.Algebra.Sum.{sum-cong, sum-zero, sum-+, sum-scaleˡ, sum-scaleʳ, sum-swap, sum-bound, δ, sum-δˡ, sum-δʳ}
 pub use Rattle.tables.specs.Tables.{Matrix, Below, _≈⟨_⟩_, _⊞_, _⊟_, _⊙_, _·⟨_⟩_, CongM}
-use Rattle.numbers.proofs.Remainders.Congruence.{cong-of-eq, cong-sym, cong-trans, cong-*, cong-sum}
+use Rattle.numbers.proofs.Remainders.Congruence.{cong-of-eq, cong-trans, cong-*, cong-sum}
 
 abbrev pub 𝟘 : Matrix
 𝟘 i j = pos 0
@@ -82,9 +82,6 @@ module _ (n : ℕ) (x : ℤ) where
 
   pub congM-refl : (A : Matrix) → CongM n x A A
   congM-refl A i j h k = cong-of-eq x refl
-
-  pub congM-sym : {A B : Matrix} → CongM n x A B → CongM n x B A
-  congM-sym e i j h k = cong-sym (e i j h k)
 
   pub congM-trans : {A B C : Matrix} → CongM n x A B → CongM n x B C → CongM n x A C
   congM-trans e f i j h k = cong-trans (e i j h k) (f i j h k)

@@ -2,7 +2,7 @@
 use mathlib.Core.Bool.{Bool}
 use Prim.Native.Nat.{ℕ}
 use lib.Dec.{T}
-use Rattle.numbers.proofs.Testing.Tests.{all, all-at, all-of, eqZ, eqZ→eq, eq→eqZ}
+use Rattle.numbers.proofs.Testing.Tests.{all, all-at, all-of, eqZ, eqZ→eq}
 use Rattle.tables.specs.Tables.{Matrix, Below, _≈⟨_⟩_}
 
 abbrev pub below : ℕ → (ℕ → ℕ → Bool) → Bool
@@ -19,6 +19,3 @@ same-sound n A B t i j h k = eqZ→eq (A i j) (B i j) (below-at n (λ i j. eqZ (
 
 pub below-of : (n : ℕ) (f : ℕ → ℕ → Bool) → Below n (λ i j. T (f i j)) → T (below n f)
 below-of n f p = all-of n (λ i. all n (λ j. f i j)) (λ i h. all-of n (λ j. f i j) (λ j k. p i j h k))
-
-pub same-complete : (n : ℕ) (A B : Matrix) → A ≈⟨ n ⟩ B → T (same n A B)
-same-complete n A B e = below-of n (λ i j. eqZ (A i j) (B i j)) (λ i j h k. eq→eqZ (e i j h k))

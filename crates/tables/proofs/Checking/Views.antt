@@ -1,5 +1,5 @@
 -- Views: the stretch is one place and one list, and so is what `row` hands back.
-use mathlib.Core.Path.{_≡_, sym, _∙_}
+use mathlib.Core.Path.{sym, _∙_}
 use mathlib.Core.List.{List}
 use Prim.Native.Nat.{ℕ, _+_, _*_, _≤_}
 use native.Mathlib.Nat.{suc-mul, mul-le-mul-right}
@@ -7,7 +7,7 @@ use native.Mathlib.Decide.{ℕ-discrete, decLt, decLe}
 use native.Mathlib.Omega.{arith}
 use lib.IntN.{ℤ}
 use lib.ListN.{length}
-use denote.Ref.{RefT, ptr, now}
+use denote.Ref.{RefT, now}
 use Rattle.numbers.specs.Limits.{IsOrder}
 use Rattle.tables.specs.Views.{Stretch, Same, HasRow, RowGives}
 use Rattle.tables.proofs.Buffers.Places.{square-small}
