@@ -1,6 +1,5 @@
--- A report by what the reader answers to the text.
---   Shows a new R   R is the report where the reader answers a and leaves new in the table
-use mathlib.Core.Path.{_≡_, refl, sym, subst}
+-- The cases of the reader's answer: what a caller may count on, and the report that is put.
+use mathlib.Core.Path.{_≡_, subst}
 use mathlib.Core.List.{List, _∷_}
 use Prim.Native.Nat.{ℕ, _*_, _≤_}
 use lib.IntN.{ℤ}
@@ -15,18 +14,6 @@ use Rattle.sheets.specs.declared.Answer.the-variants.{Sheet, Length, Refused}
 use Rattle.sheets.proofs.Uses.{Means, read-means}
 use Rattle.reports.specs.Report.{figures, IsCertificate, IsReport, no-sheet, sheet, Puts}
 use Rattle.reports.proofs.Places.{place-near}
-
-abbrev pub Shows : Answer → List ℤ → List ℕ → Type 0
-Shows (Sheet n) new R = IsCertificate n (take (n * n) new) R
-Shows Length new R = ⊥
-Shows (Refused p) new R = R ≡ line (figures (9 ∷ placeOf p))
-
-pub shows-report : (t R : List ℕ) (a : Answer) (new : List ℤ) → Means t a new → Shows a new R → IsReport t R
-shows-report t R (Sheet n) new m s = sheet n (take (n * n) new) R m s
-shows-report t R Length new m s = absurd s
-shows-report t R (Refused p) new m s = subst (IsReport t) (sym s) (no-sheet (placeOf p) m)
-
--- ---- the cases of the answer
 
 module _ {t : List ℕ} {old new : List ℤ} (a : Answer) (size : length old ≡ 1024) (says : ReadSays t old (figuresOf a) new) where
   means : {b : Answer} → a ≡ b → Means t b new
