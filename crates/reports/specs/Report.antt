@@ -1,0 +1,45 @@
+-- What the program prints for a text, line by line.
+--   figures ks             the numbers ks as figures of a line
+--   after0 k w             the text w where the number k is 0, and nothing after any other number
+--   certificate n o E      the line of number, n, need and k of the inverse call's answer o, and after 0 the inverse E, n lines of n figures
+--   IsCertificate n es R   R is the certificate of what the inverse call gives for the entries es, lent n² numbers
+--   IsReport t R           R is the report of the text t
+--   Puts P old r new       the first r bytes of new are a text with the property P, as far as it has room, and the others are as in old
+use mathlib.Core.Path.{_≡_}
+use mathlib.Core.List.{List, [], _∷_, _++_}
+use Prim.Native.Nat.{ℕ, zero, suc, _*_}
+use lib.IntN.{ℤ, pos}
+use lib.ListN.{length}
+use Rattle.verdict.specs.Verdict.{InverseGives}
+use Rattle.verdict.specs.declared.Outcome.{Outcome}
+use Rattle.sheets.specs.Sheet.{line, rows, IsSheet}
+use Rattle.sheets.specs.Answer.{NoSheet}
+use Rattle.sheets.specs.Writing.{Put}
+
+abbrev pub figures : List ℕ → List ℤ
+figures [] = []
+figures (k ∷ ks) = pos k ∷ figures ks
+
+abbrev pub after0 : ℕ → List ℕ → List ℕ
+after0 zero w = w
+after0 (suc k) w = []
+
+abbrev pub certificate : ℕ → Outcome → List ℤ → List ℕ
+certificate n o E = line (figures (o .number ∷ n ∷ o .exponent ∷ o .lifts ∷ [])) ++ after0 (o .number) (rows n n E)
+
+pub record IsCertificate (n : ℕ) (es : List ℤ) (R : List ℕ) : Type 0 where
+  pub outcome : Outcome
+  pub lent : List ℤ
+  pub left : List ℤ
+  pub size : length lent ≡ n * n
+  pub gives : InverseGives n es lent outcome left
+  pub text : R ≡ certificate n outcome left
+
+pub data IsReport (t : List ℕ) : List ℕ → Type 0 where
+  no-sheet : (fs : List ℕ) → NoSheet t fs → IsReport t (line (figures (9 ∷ fs)))
+  sheet : (n : ℕ) (es : List ℤ) (R : List ℕ) → IsSheet t n es → IsCertificate n es R → IsReport t R
+
+pub record Puts (P : List ℕ → Type 0) (old : List ℕ) (r : ℕ) (new : List ℕ) : Type 0 where
+  pub text : List ℕ
+  pub right : P text
+  pub put : Put old 0 text r new
