@@ -8,7 +8,7 @@ use lib.IntN.{ℤ, pos}
 use lib.ListN.{take, drop}
 use lib.Seq.{take-at}
 use Rattle.tables.specs.Checks.{Lawful}
-use Rattle.tables.proofs.Lawful.{lawful-sound}
+use Rattle.tables.proofs.Checking.Lawful.{lawful-sound}
 use Rattle.verdict.specs.Verdict.{answer}
 use Rattle.verdict.specs.Starred.{minus, thin}
 use Rattle.verdict.proofs.Tight.{inverse-of-thin}

@@ -13,12 +13,14 @@ use Rattle.numbers.specs.Limits.{IsOrder}
 use Rattle.tables.specs.Tables.{entries}
 use Rattle.tables.specs.Checks.{Lawful}
 use Rattle.tables.specs.Buffer.{Low}
-use Rattle.tables.proofs.Buffers.{square-small, low-flat, low-≈, block-zero}
+use Rattle.tables.proofs.Buffers.Places.{square-small}
+use Rattle.tables.proofs.Buffers.Kernels.{low-flat, low-≈}
+use Rattle.tables.proofs.Buffers.Lists.{block-zero}
 use Rattle.verdict.specs.Verdict.{Narrow}
 use Rattle.verdict.specs.declared.Outcome.{Outcome}
 use Rattle.sheets.specs.Sheet.{line, rows}
-use Rattle.sheets.proofs.Lengths.{Below, line-most, rows-most}
-use Rattle.sheets.proofs.Puts.{put-length, put-whole}
+use Rattle.sheets.proofs.Text.Lengths.{Below, line-most, rows-most}
+use Rattle.sheets.proofs.Bytes.Puts.{put-length, put-whole}
 use Rattle.reports.specs.Report.{figures, after0, IsCertificate, IsReport, no-sheet, sheet, Puts}
 use Rattle.reports.proofs.Narrow.{number-most, exponent-most, lifts-most, inverse-narrow}
 use Rattle.reports.proofs.Places.{Near, near, refusal-near}

@@ -8,10 +8,10 @@ use native.Mathlib.Omega.{arith}
 use lib.IntN.{ℤ, natAbs}
 use lib.ListN.{length}
 use Rattle.numbers.specs.Refusals.{Gives}
-use Rattle.numbers.proofs.Leasts.{size-small}
+use Rattle.numbers.proofs.Counting.Leasts.{size-small}
 use Rattle.tables.specs.Tables.{entries, height}
 use Rattle.tables.specs.Checks.{Lawful}
-use Rattle.tables.proofs.Heights.{height-one, legal-height}
+use Rattle.tables.proofs.Checking.Heights.{height-one, legal-height}
 use Rattle.verdict.specs.Verdict.{Narrow, TooWide, Told, after-0, after-7, after-8, inverseRefusals, InverseGives}
 use Rattle.verdict.specs.declared.Outcome.{Outcome}
 

@@ -10,7 +10,7 @@ use Rattle.sheets.specs.Place.{lineAt, columnAt}
 use Rattle.sheets.specs.Answer.{NoSheet, byte, ended, placeOf}
 use Rattle.sheets.specs.declared.Place.{Place}
 use Rattle.sheets.proofs.Cut.{sheet-most}
-use Rattle.sheets.proofs.Cursors.{sane-cursor}
+use Rattle.sheets.proofs.Reading.Cursors.{sane-cursor}
 
 pub data Near : List ℕ → Type 0 where
   near : (l c r : ℕ) → l ≤ 9220 → c ≤ 9220 → r ≤ 2 → Near (l ∷ c ∷ r ∷ [])

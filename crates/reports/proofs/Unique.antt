@@ -14,7 +14,7 @@ use Rattle.sheets.specs.Sheet.{line, rows}
 use Rattle.sheets.specs.declared.Answer.{Answer}
 use Rattle.sheets.specs.declared.Answer.the-variants.{Sheet, Length, Refused}
 use Rattle.sheets.specs.Writing.{Put}
-use Rattle.sheets.proofs.Puts.{put-unique}
+use Rattle.sheets.proofs.Bytes.Puts.{put-unique}
 use Rattle.sheets.proofs.Unique.{read-unique}
 use Rattle.reports.specs.Report.{figures, certificate, IsCertificate, IsReport, Puts}
 use Rattle.reports.proofs.Writing.{after-other}

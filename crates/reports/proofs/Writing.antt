@@ -13,7 +13,7 @@ use Rattle.verdict.specs.Verdict.{InverseGives}
 use Rattle.verdict.specs.declared.Outcome.{Outcome}
 use Rattle.sheets.specs.Sheet.{line, rows}
 use Rattle.sheets.specs.Writing.{Put}
-use Rattle.sheets.proofs.Puts.{put-join}
+use Rattle.sheets.proofs.Bytes.Puts.{put-join}
 use Rattle.reports.specs.Report.{figures, after0, certificate, IsCertificate, Puts}
 
 -- what the machine reads back of four figures

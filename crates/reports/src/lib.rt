@@ -9,14 +9,11 @@ ghost use Rattle.sheets.specs.Answer.{placeOf};
 ghost use Rattle.sheets.specs.Writing.{Put};
 ghost use Rattle.reports.specs.Report.{figures, IsCertificate, IsReport, Puts};
 
-// How many numbers a table of the greatest order has.
-const CELLS_MOST: usize = 1024;
-
 // Puts the report of the text at the start of out, as far as it has room there, and gives the count of its bytes.
 pub fn report(text: &[u8], out: &mut [u8]) -> usize
     ensures { λ r. ⌜ Puts (IsReport (now (text .entry))) (now (out .entry)) r (now (out .exit)) ⌝ }
 {
-    let mut table = [0i64; CELLS_MOST];
+    let mut table = [0i64; numbers::MOST_CELLS];
     match sheets::read(text, &mut table) {
         sheets::Answer::Sheet(n) => put_certificate(n, &table, out),
         sheets::Answer::Refused(p) => put_refusal(p, out),
@@ -41,7 +38,7 @@ fn put_certificate(n: usize, table: &[i64], out: &mut [u8]) -> usize
     ensures { λ r. ⌜ Puts (IsCertificate n (take (n * n) (now (table .entry)))) (now (out .entry)) r (now (out .exit)) ⌝ }
 {
     let cells = n * n;
-    let mut inverse = [0i64; CELLS_MOST];
+    let mut inverse = [0i64; numbers::MOST_CELLS];
     certify(n, &table[..cells], &mut inverse[..cells], out)
 }
 

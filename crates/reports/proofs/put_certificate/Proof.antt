@@ -4,7 +4,7 @@ use native.Mathlib.Omega.{arith}
 use lib.IntN.{pos}
 use lib.ListN.{length, take, replicate}
 use lib.Seq.{length-take-le}
-use Rattle.tables.proofs.Buffers.{square-small}
+use Rattle.tables.proofs.Buffers.Places.{square-small}
 use borrow.Author.Needs.{needs}
 use Rattle.reports.proofs.put_certificate.Statement.{statement}
 use Rattle.reports.proofs.put_certificate.Tie as tie
