@@ -3,7 +3,7 @@ use mathlib.Core.Path.{_≡_, sym, ap, _∙_, subst}
 use mathlib.Core.List.{List}
 use Prim.Native.Nat.{ℕ}
 use native.Mathlib.Omega.{arith}
-use lib.ListN.{length, take}
+use lib.ListN.{take}
 use Rattle.io.proofs.Counting.{counts}
 use Rattle.reports.specs.Report.{IsReport, Puts}
 use Rattle.reports.proofs.Cut.{printed}

@@ -12,7 +12,7 @@ use Rattle.sheets.specs.declared.Place.{Place}
 use Rattle.sheets.specs.declared.Answer.{Answer}
 use Rattle.sheets.specs.declared.Answer.the-variants.{Sheet, Length, Refused}
 use Rattle.sheets.proofs.Uses.{Means, read-means}
-use Rattle.reports.specs.Report.{figures, IsCertificate, IsReport, no-sheet, sheet, Puts}
+use Rattle.reports.specs.Report.{figures, IsCertificate, IsReport, no-sheet, of-sheet, Puts}
 use Rattle.reports.proofs.Places.{place-near}
 
 module _ {t : List ℕ} {old new : List ℤ} (a : Answer) (size : length old ≡ 1024) (says : ReadSays t old (figuresOf a) new) where
@@ -30,7 +30,7 @@ module _ {t : List ℕ} {old new : List ℤ} (a : Answer) (size : length old ≡
 
   module _ {before after : List ℕ} {r : ℕ} where
     pub sheet-puts : {n : ℕ} → a ≡ Sheet n → Puts (IsCertificate n (take (n * n) new)) before r after → Puts (IsReport t) before r after
-    sheet-puts {n} e h = record { text = h .text; right = sheet n (take (n * n) new) (h .text) (means e) (h .right); put = h .put }
+    sheet-puts {n} e h = record { text = h .text; right = of-sheet n (take (n * n) new) (h .text) (means e) (h .right); put = h .put }
 
     pub refused-puts : {p : Place} → a ≡ Refused p → Put before 0 (line (figures (9 ∷ placeOf p))) r after → Puts (IsReport t) before r after
     refused-puts {p} e h = record { text = line (figures (9 ∷ placeOf p)); right = no-sheet (placeOf p) (means e); put = h }

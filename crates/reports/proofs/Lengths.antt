@@ -21,8 +21,9 @@ use Rattle.verdict.specs.declared.Outcome.{Outcome}
 use Rattle.sheets.specs.Sheet.{line, rows}
 use Rattle.sheets.proofs.Text.Lengths.{Below, line-most, rows-most}
 use Rattle.sheets.proofs.Bytes.Puts.{put-length, put-whole}
-use Rattle.reports.specs.Report.{figures, after0, IsCertificate, IsReport, no-sheet, sheet, Puts}
-use Rattle.reports.proofs.Narrow.{number-most, exponent-most, lifts-most, inverse-narrow}
+use Rattle.reports.specs.Report.{figures, after0, answerLine, IsCertificate, IsReport, no-sheet, of-sheet, Puts}
+use Rattle.verdict.proofs.Figures.{number-most, exponent-most, lifts-most}
+use Rattle.verdict.proofs.Refusals.{inverse-narrow}
 use Rattle.reports.proofs.Places.{Near, near, refusal-near}
 use Rattle.reports.proofs.Writing.{after-zero, after-other}
 
@@ -48,15 +49,12 @@ narrow-below {n} E order size h = below-of 11 E (λ i l. at i (subst (λ (m : �
 
 certificate-short : {n : ℕ} {es : List ℤ} {R : List ℕ} → Lawful n es → IsCertificate n es R → length R ≤ 14352
 certificate-short {n} {es} law c =
-    omega (arith, ap length (c .text), length-append first (after0 (o .number) (rows n n (c .left))), head, body (ℕ-discrete (o .number) 0))
+    omega (arith, ap length (c .text), length-append (answerLine n o) (after0 (o .number) (rows n n (c .left))), head, body (ℕ-discrete (o .number) 0))
   where
     o : Outcome
     o = c .outcome
 
-    first : List ℕ
-    first = line (figures (o .number ∷ n ∷ o .exponent ∷ o .lifts ∷ []))
-
-    head : length first ≤ 16
+    head : length (answerLine n o) ≤ 16
     head =
         line-most 1 (figures (o .number ∷ n ∷ o .exponent ∷ o .lifts ∷ []))
         (omega (arith, number-most law (c .size) (c .gives)), (omega (arith, law .order .upto), (omega (arith, exponent-most law (c .size) (c .gives)), (omega (arith, lifts-most law (c .size) (c .gives)), tt))))
@@ -64,7 +62,7 @@ certificate-short {n} {es} law c =
     body : Dec (o .number ≡ 0) → length (after0 (o .number) (rows n n (c .left))) ≤ 14336
     body (yes z) =
         let s = c .gives .written z .size in
-        omega (arith, ap length (after-zero (o .number) (rows n n (c .left)) z), s, square-small (law .order .upto), rows-most 11 n n (c .left) (narrow-below (c .left) (law .order) s (inverse-narrow law (c .size) (c .gives) z)))
+        omega (arith, ap length (after-zero (o .number) (rows n n (c .left)) z), s, square-small (law .order .upto), rows-most 11 n n (c .left) (narrow-below (c .left) (law .order) s (inverse-narrow (c .gives) z)))
     body (no f) = omega (arith, ap length (after-other (o .number) (rows n n (c .left)) f))
 
 refusal-short : {fs : List ℕ} → Near fs → length (line (figures (9 ∷ fs))) ≤ 24
@@ -72,7 +70,7 @@ refusal-short (near l c r a b d) = line-most 3 (figures (9 ∷ l ∷ c ∷ r ∷
 
 pub report-short : {t R : List ℕ} → IsReport t R → length R ≤ 14352
 report-short (no-sheet fs h) = omega (arith, refusal-short (refusal-near h))
-report-short (sheet n es R h c) = certificate-short (record { order = h .order; size = h .count; legal = h .legal }) c
+report-short (of-sheet n es R h c) = certificate-short (record { order = h .order; size = h .count; legal = h .legal }) c
 
 -- what is put stands in the buffer
 pub puts-within : {P : List ℕ → Type 0} {old new : List ℕ} {r : ℕ} → Puts P old r new → r ≤ length new

@@ -2,7 +2,6 @@ pub mod Answered
 pub mod Cases
 pub mod Cut
 pub mod Lengths
-pub mod Narrow
 pub mod Places
 pub mod Reading
 pub mod Unique

@@ -9,14 +9,11 @@ use Rattle.sheets.specs.Sheet.{IsBeginning}
 use Rattle.sheets.specs.Place.{lineAt, columnAt}
 use Rattle.sheets.specs.Answer.{NoSheet, byte, ended, placeOf}
 use Rattle.sheets.specs.declared.Place.{Place}
-use Rattle.sheets.proofs.Cut.{sheet-most}
+use Rattle.sheets.proofs.Cut.{beginning-most}
 use Rattle.sheets.proofs.Reading.Cursors.{sane-cursor}
 
 pub data Near : List ℕ → Type 0 where
   near : (l c r : ℕ) → l ≤ 9220 → c ≤ 9220 → r ≤ 2 → Near (l ∷ c ∷ r ∷ [])
-
-beginning-most : (t : List ℕ) → IsBeginning t → length t ≤ 9219
-beginning-most t b = omega (arith, length-append t (b .rest), sheet-most (t ++ b .rest) (b .order) (b .entries) (b .whole))
 
 near-at : (t : List ℕ) (k r : ℕ) → length (take k t) ≤ 9219 → r ≤ 2 → Near (lineAt t k ∷ columnAt t k ∷ r ∷ [])
 near-at t k r h l =

@@ -16,7 +16,7 @@ use Rattle.sheets.specs.declared.Reason.the-variants.{Byte, End}
 use Rattle.sheets.specs.declared.Answer.{Answer}
 use Rattle.sheets.specs.declared.Answer.the-variants.{Sheet, Length, Refused}
 use Rattle.sheets.proofs.Uses.{Means, read-means}
-use Rattle.reports.specs.Report.{figures, IsCertificate, IsReport, no-sheet, sheet}
+use Rattle.reports.specs.Report.{figures, IsCertificate, IsReport, no-sheet, of-sheet}
 
 pub blank : List ℤ
 blank = replicate 1024 (pos 0)
@@ -46,7 +46,7 @@ read-refused t fs (ended b d) = at-place t _ (record { line = lineAt t (length t
 
 pub reading : (t R : List ℕ) → IsReport t R → Reading t R
 reading t R (no-sheet fs h) = read-refused t fs h
-reading t R (sheet n es R′ h c) = record {
+reading t R (of-sheet n es R′ h c) = record {
   answer = Sheet n;
   left = es ++ drop (n * n) blank;
   says = read n es blank-size h;
@@ -57,6 +57,6 @@ pub reported : (t R : List ℕ) → Reading t R → IsReport t R
 reported t R r = go (r .answer) (read-means t blank (r .left) (r .answer) blank-size (r .says)) (r .shows)
   where
     go : (a : Answer) → Means t a (r .left) → Shows a (r .left) R → IsReport t R
-    go (Sheet n) m s = sheet n (take (n * n) (r .left)) R m s
+    go (Sheet n) m s = of-sheet n (take (n * n) (r .left)) R m s
     go Length m s = absurd s
     go (Refused p) m s = subst (IsReport t) (sym s) (no-sheet (placeOf p) m)

@@ -1,7 +1,7 @@
 -- One report of each text, whatever the lent numbers were; and so one content of the buffer and one count.
 use mathlib.Core.Path.{_≡_, refl, sym, ap, ap₂, _∙_, subst}
 use mathlib.Core.Logic.{_≢_}
-use mathlib.Core.List.{List, [], _∷_, _++_}
+use mathlib.Core.List.{List, _++_}
 use Prim.Native.Nat.{ℕ}
 use native.Mathlib.Decide.{ℕ-discrete}
 use lib.IntN.{ℤ}
@@ -10,13 +10,13 @@ use Rattle.numbers.specs.Refusals.{Gives}
 use Rattle.verdict.specs.Verdict.{inverseRefusals, InverseGives}
 use Rattle.verdict.specs.declared.Outcome.{Outcome}
 use Rattle.verdict.proofs.Unique.{inverse-call-unique}
-use Rattle.sheets.specs.Sheet.{line, rows}
+use Rattle.sheets.specs.Sheet.{rows}
 use Rattle.sheets.specs.declared.Answer.{Answer}
 use Rattle.sheets.specs.declared.Answer.the-variants.{Sheet, Length, Refused}
 use Rattle.sheets.specs.Writing.{Put}
 use Rattle.sheets.proofs.Bytes.Puts.{put-unique}
 use Rattle.sheets.proofs.Unique.{read-unique}
-use Rattle.reports.specs.Report.{figures, certificate, IsCertificate, IsReport, Puts}
+use Rattle.reports.specs.Report.{answerLine, certificate, IsCertificate, IsReport, Puts}
 use Rattle.reports.proofs.Writing.{after-other}
 use Rattle.reports.proofs.Reading.{blank, Shows, reading}
 
@@ -34,7 +34,7 @@ module _ {n : ℕ} {es L E : List ℤ} {o : Outcome} (K : List ℤ) (same : leng
 -- no rows after another number
 certificate-other : (n : ℕ) (o : Outcome) (E F : List ℤ) → o .number ≢ 0 → certificate n o E ≡ certificate n o F
 certificate-other n o E F f =
-    ap (λ (w : List ℕ). line (figures (o .number ∷ n ∷ o .exponent ∷ o .lifts ∷ [])) ++ w) (after-other (o .number) (rows n n E) f ∙ sym (after-other (o .number) (rows n n F) f))
+    ap (λ (w : List ℕ). answerLine n o ++ w) (after-other (o .number) (rows n n E) f ∙ sym (after-other (o .number) (rows n n F) f))
 
 pub certificate-unique : {n : ℕ} {es : List ℤ} {R R′ : List ℕ} → IsCertificate n es R → IsCertificate n es R′ → R ≡ R′
 certificate-unique {n} {es} c d = c .text ∙ go (ℕ-discrete (d .outcome .number) 0) ∙ sym (d .text)

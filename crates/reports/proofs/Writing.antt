@@ -14,7 +14,7 @@ use Rattle.verdict.specs.declared.Outcome.{Outcome}
 use Rattle.sheets.specs.Sheet.{line, rows}
 use Rattle.sheets.specs.Writing.{Put}
 use Rattle.sheets.proofs.Bytes.Puts.{put-join}
-use Rattle.reports.specs.Report.{figures, after0, certificate, IsCertificate, Puts}
+use Rattle.reports.specs.Report.{figures, after0, answerLine, certificate, IsCertificate, Puts}
 
 -- what the machine reads back of four figures
 pub put-read : {old new : List ℕ} {r a b c d : ℕ} → SFits w64 (pos a) → SFits w64 (pos b) → SFits w64 (pos c) → SFits w64 (pos d)
@@ -31,13 +31,13 @@ after-zero (suc k) w e = absurd (omega arith)
 
 -- the line alone, or the line and the rows
 module _ {n : ℕ} {es L E : List ℤ} {o : Outcome} (size : length L ≡ n * n) (gives : InverseGives n es L o E) {old mid : List ℕ} {r : ℕ}
-    (first : Put old 0 (line (figures (o .number ∷ n ∷ o .exponent ∷ o .lifts ∷ []))) r mid) where
+    (first : Put old 0 (answerLine n o) r mid) where
   puts : {new : List ℕ} {q : ℕ} → Put old 0 (certificate n o E) q new → Puts (IsCertificate n es) old q new
-  puts h = record { text = _; right = record { outcome = o; lent = L; left = E; size = size; gives = gives; text = refl }; put = h }
+  puts h = record { text = certificate n o E; right = record { outcome = o; lent = L; left = E; size = size; gives = gives; text = refl }; put = h }
 
   pub line-alone : o .number ≢ 0 → Puts (IsCertificate n es) old r mid
   line-alone f = puts (simp (after-other (o .number) (rows n n E) f, append-nil) first)
 
   pub line-and-rows : {new : List ℕ} {q : ℕ} → o .number ≡ 0 → Put mid r (rows n n E) q new → Puts (IsCertificate n es) old q new
   line-and-rows {new} {q} z h =
-      puts (subst (λ (w : List ℕ). Put old 0 (line (figures (o .number ∷ n ∷ o .exponent ∷ o .lifts ∷ [])) ++ w) q new) (sym (after-zero (o .number) (rows n n E) z)) (put-join _ (rows n n E) first h))
+      puts (subst (λ (w : List ℕ). Put old 0 (answerLine n o ++ w) q new) (sym (after-zero (o .number) (rows n n E) z)) (put-join (answerLine n o) (rows n n E) first h))

@@ -1,9 +1,10 @@
 -- What the program prints for a text, line by line.
 --   figures ks             the numbers ks as figures of a line
 --   after0 k w             the text w where the number k is 0, and nothing after any other number
---   certificate n o E      the line of number, n, need and k of the inverse call's answer o, and after 0 the inverse E, n lines of n figures
+--   answerLine n o         the line of number, n, need and k, where the inverse call answers o
+--   certificate n o E      this line, and after 0 the inverse E, n lines of n figures
 --   IsCertificate n es R   R is the certificate of what the inverse call gives for the entries es, lent n² numbers
---   IsReport t R           R is the report of the text t
+--   IsReport t R           R is the report of the text t: the line of 9, line, column and reason, or the certificate of a sheet
 --   Puts P old r new       the first r bytes of new are a text with the property P, as far as it has room, and the others are as in old
 use mathlib.Core.Path.{_≡_}
 use mathlib.Core.List.{List, [], _∷_, _++_}
@@ -24,8 +25,11 @@ abbrev pub after0 : ℕ → List ℕ → List ℕ
 after0 zero w = w
 after0 (suc k) w = []
 
+abbrev pub answerLine : ℕ → Outcome → List ℕ
+answerLine n o = line (figures (o .number ∷ n ∷ o .exponent ∷ o .lifts ∷ []))
+
 abbrev pub certificate : ℕ → Outcome → List ℤ → List ℕ
-certificate n o E = line (figures (o .number ∷ n ∷ o .exponent ∷ o .lifts ∷ [])) ++ after0 (o .number) (rows n n E)
+certificate n o E = answerLine n o ++ after0 (o .number) (rows n n E)
 
 pub record IsCertificate (n : ℕ) (es : List ℤ) (R : List ℕ) : Type 0 where
   pub outcome : Outcome
@@ -37,7 +41,7 @@ pub record IsCertificate (n : ℕ) (es : List ℤ) (R : List ℕ) : Type 0 where
 
 pub data IsReport (t : List ℕ) : List ℕ → Type 0 where
   no-sheet : (fs : List ℕ) → NoSheet t fs → IsReport t (line (figures (9 ∷ fs)))
-  sheet : (n : ℕ) (es : List ℤ) (R : List ℕ) → IsSheet t n es → IsCertificate n es R → IsReport t R
+  of-sheet : (n : ℕ) (es : List ℤ) (R : List ℕ) → IsSheet t n es → IsCertificate n es R → IsReport t R
 
 pub record Puts (P : List ℕ → Type 0) (old : List ℕ) (r : ℕ) (new : List ℕ) : Type 0 where
   pub text : List ℕ
