@@ -13,7 +13,8 @@ BELIEVED = [
     "lifting/specs/Lifting.antt", "lifting/specs/Views.antt",
     "verdict/specs/Verdict.antt",
     "host/specs/Bytes.antt", "host/specs/Host.antt",
-    "sheets/specs/Sheet.antt", "sheets/specs/Place.antt", "sheets/specs/Answer.antt",
+    "sheets/specs/Sheet.antt", "sheets/specs/Place.antt", "sheets/specs/Answer.antt", "sheets/specs/Writing.antt",
+    "reports/specs/Report.antt", "certify/specs/Program.antt",
 ]
 MOST_BELIEVED = 450
 
@@ -65,7 +66,7 @@ def must_fail_edits_are_refused_for_a_false_fact():
 def public_calls_require_nothing():
     calls = {
         "tables/src/lib.rt": ["row"], "lifting/src/lib.rt": ["lift", "block"], "verdict/src/lib.rt": ["verdict", "inverse"],
-        "host/src/lib.rt": ["muljenta_verdict", "muljenta_inverse"], "sheets/src/lib.rt": ["read"],
+        "host/src/lib.rt": ["muljenta_verdict", "muljenta_inverse"], "sheets/src/lib.rt": ["read"], "reports/src/lib.rt": ["report"],
     }
     for name, functions in calls.items():
         text = (CRATES / name).read_text(encoding="utf8")

@@ -1,5 +1,6 @@
 """The built libraries, called from Python: libprobe (every public call on 8-byte numbers) and libhost (the calls of a C host)."""
 import ctypes
+import pathlib
 import struct
 
 SIZE = ctypes.c_size_t
@@ -15,11 +16,11 @@ def flat(table):
 
 class Library:
     def __init__(self, folder):
-        self.probe = ctypes.CDLL(f"{folder}/libprobe.so")
-        self.host = ctypes.CDLL(f"{folder}/libhost.so")
+        self.folder = pathlib.Path(folder).resolve()
+        self.probe = ctypes.CDLL(f"{self.folder}/libprobe.so")
+        self.host = ctypes.CDLL(f"{self.folder}/libhost.so")
         for name in ("probe_row", "probe_block", "probe_report"):
-            if hasattr(self.probe, name):
-                getattr(self.probe, name).restype = SIZE
+            getattr(self.probe, name).restype = SIZE
 
     def lift(self, n, s, e, table, buffer):
         """The number, and the buffer as it is left."""

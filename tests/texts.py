@@ -64,10 +64,8 @@ def checks(lib):
         found = grammar.parse(text)
         after = before if figures[0] else found[2] + before[len(found[2]):]
         assert lib.read(text, before) == (figures, after), text[:200]
-        if hasattr(lib.probe, "probe_report"):
-            expected = report(text)
-            count, out = lib.report(text, ROOM)
-            assert out[:count] == expected and set(out[count:]) <= {0x5A}, text[:200]
+        count, out = lib.report(text, ROOM)
+        assert out[:count] == report(text) and set(out[count:]) <= {0x5A}, text[:200]
         return figures
 
     def cases_of_the_document():
