@@ -62,7 +62,7 @@ def checks(lib):
         return "examples/host.py"
 
     def host_in_rust():
-        run("rustc", "-o", f"{lib.folder}/host_rs", "examples/host.rs", "-C", f"link-arg={ARCHIVE}")
+        run("rustc", "--edition", "2021", "-o", f"{lib.folder}/host_rs", "examples/host.rs", "-C", f"link-arg={ARCHIVE}")
         assert run(f"{lib.folder}/host_rs") == HOSTS
         return "examples/host.rs"
 

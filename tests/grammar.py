@@ -66,9 +66,8 @@ def place(text, offset):
     return before.count(b"\n") + 1, offset - (before.rfind(b"\n") + 1) + 1
 
 
-def figures(text):
-    """What the reader answers: number and values, zeros after them."""
-    found = parse(text)
+def figures(text, found):
+    """What the reader answers to a text that parses so: number and values, zeros after them."""
     if found[0] == "sheet":
         return (0, found[1], 0, 0)
     if found[0] == "bad":

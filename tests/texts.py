@@ -16,11 +16,10 @@ THIN = b"3\n1 262144 0\n0 1 524288\n0 0 1\n"
 THIN_REPORT = b"0 3 25 1\n1 -262144 137438953472\n0 1 -524288\n0 0 1\n"
 
 
-def report(text):
-    """What certify prints."""
-    found = grammar.parse(text)
+def report(text, found):
+    """What certify prints for a text that parses so."""
     if found[0] != "sheet":
-        return " ".join(map(str, grammar.figures(text))).encode() + b"\n"
+        return " ".join(map(str, grammar.figures(text, found))).encode() + b"\n"
     n, entries = found[1], found[2]
     told, inverse = exact.inverse([entries[i * n:(i + 1) * n] for i in range(n)])
     lines = [[told[0], n, *told[1:]]] + (inverse or [])
@@ -60,18 +59,18 @@ def checks(lib):
     before = list(range(1, 1025))
 
     def agrees(text):
-        figures = grammar.figures(text)
         found = grammar.parse(text)
+        figures = grammar.figures(text, found)
         after = before if figures[0] else found[2] + before[len(found[2]):]
         assert lib.read(text, before) == (figures, after), text[:200]
         count, out = lib.report(text, ROOM)
-        assert out[:count] == report(text) and set(out[count:]) <= {0x5A}, text[:200]
+        assert out[:count] == report(text, found) and set(out[count:]) <= {0x5A}, text[:200]
         return figures
 
     def cases_of_the_document():
         for text, figures in CASES:
             assert agrees(text) == figures, text
-        assert agrees(THIN) == (0, 3, 0, 0) and report(THIN) == THIN_REPORT
+        assert agrees(THIN) == (0, 3, 0, 0) and report(THIN, grammar.parse(THIN)) == THIN_REPORT
         return f"{len(CASES) + 1} texts"
 
     def damaged_sheets():
