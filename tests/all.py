@@ -3,6 +3,7 @@ import sys
 import time
 import traceback
 
+import hosts
 import house
 import lifts
 import tables
@@ -11,7 +12,7 @@ from library import Library
 
 passed = failed = 0
 library = Library(sys.argv[1])
-for module in (house, tables, lifts, texts):
+for module in (house, tables, lifts, texts, hosts):
     for check in module.checks(library):
         began = time.time()
         try:

@@ -15,6 +15,7 @@ def flat(table):
 
 class Library:
     def __init__(self, folder):
+        self.folder = folder
         self.probe = ctypes.CDLL(f"{folder}/libprobe.so")
         self.host = ctypes.CDLL(f"{folder}/libhost.so")
         for name in ("probe_row", "probe_block", "probe_report"):
