@@ -4,6 +4,7 @@ import time
 import traceback
 
 import examples
+import hosts
 import house
 import lifts
 import tables
@@ -12,7 +13,7 @@ from library import Library
 
 passed = failed = 0
 library = Library(sys.argv[1])
-for module in (house, tables, lifts, texts, examples):
+for module in (house, tables, lifts, texts, hosts, examples):
     for check in module.checks(library):
         began = time.time()
         try:
