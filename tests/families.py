@@ -98,6 +98,21 @@ def near_floats(rng):
     return rng.choice([a, b])
 
 
+def tied_start(e, sign):
+    """A table of order 3 whose inverse has the corner sign·X/2, for X = 2^e: a tie of B_0."""
+    i = min(20, e - 6)
+    return [[1, 2**i, 0], [0, 1, sign * 2 ** (e - 1 - i)], [0, 0, 1]]
+
+
+def tied_step(e):
+    """The least odd number whose expansion at exponent e has a tie in M_0, that is B_0·R_0² = X/2 modulo X. e is odd: R_0² is a square."""
+    x = 2**e
+    for a in range(1, 2 ** (e - 2), 2):
+        b = exact.balanced(pow(a, -1, x), x)
+        if b * ((1 - a * b) // x) ** 2 % x == x // 2:
+            return [[a]]
+
+
 def every_kind(rng, count):
     """At least `count` tables."""
     fixed = [("identity", exact.identity(n)) for n in range(1, 33)]

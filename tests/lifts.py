@@ -39,6 +39,18 @@ def checks(lib):
         assert set(exponents) == set(range(14, 33)) and set(steps) == {0, 1, 2, 3, 4}, (exponents, steps)
         return f"seed {SEED}, {done} lifts, numbers {dict(numbers)}, {len(exponents)} exponents, {views} block views"
 
+    def ties():
+        """Remainders of exactly X/2, which random tables hardly meet: +X/2 is the balanced one."""
+        starts = [(e, families.tied_start(e, sign)) for e in range(14, 33) for sign in (1, -1)]
+        steps = [(e, families.tied_step(e)) for e in (15, 17, 19)]
+        for tied, block in ((starts, 0), (steps, 2)):
+            for e, a in tied:
+                blocks = exact.expansion(a, e, 4)
+                assert 2 ** (e - 1) in flat(blocks[block]), (e, a)
+                buffer = [v for b in blocks for v in flat(b)]
+                assert lib.lift(len(a), 4, e, flat(a), [7] * len(buffer)) == (0, buffer), (e, a)
+        return f"{len(starts)} ties of B_0, {len(steps)} of M_0"
+
     def random_pick(rng):
         n = rng.choice([1, 2, 2, 3, 3, 4, 5, 6, 8, 9, 12, 17, 32])
         limit = rng.choice([1, 2, 9, 100, 2**10, families.LEGAL])
@@ -82,4 +94,4 @@ def checks(lib):
             assert lib.row(n, [1], 0) == []
         return f"{seen} rows"
 
-    return [legal_lifts, refusals_in_order, rows]
+    return [legal_lifts, ties, refusals_in_order, rows]

@@ -1,39 +1,30 @@
-// One case each: a call of the library beside what the document says, and a line that tells whether they agree.
+// Calls of the library, each beside what the document says of it.
 ghost use mathlib.Core.Path.{_≡_};
 ghost use Rattle.numbers.specs.Says.{Tells};
-use libc::STDOUT_FILENO;
 
 // What stands in a lent buffer at entry, so that one that is to be left alone can be compared.
 pub(crate) const MARK: i64 = 77;
 
 // need: the exponent that the verdict carries.
-pub(crate) fn need_is(name: &[u8], n: usize, table: &[i64], exponent: u32) -> bool {
+pub(crate) fn need_is(n: usize, table: &[i64], exponent: u32) -> bool {
     let o = verdict::outcome_of(verdict::verdict(n, table));
-    told(name, o.exponent == exponent)
+    o.exponent == exponent
 }
 
 // k: the lifts that the verdict carries.
-pub(crate) fn lifts_are(name: &[u8], n: usize, table: &[i64], lifts: u32) -> bool {
+pub(crate) fn lifts_are(n: usize, table: &[i64], lifts: u32) -> bool {
     let o = verdict::outcome_of(verdict::verdict(n, table));
-    told(name, o.lifts == lifts)
+    o.lifts == lifts
 }
 
 // verdict: number, exponent and lifts.
-pub(crate) fn verdict_is(
-    name: &[u8],
-    n: usize,
-    table: &[i64],
-    number: u32,
-    exponent: u32,
-    lifts: u32,
-) -> bool {
+pub(crate) fn verdict_is(n: usize, table: &[i64], number: u32, exponent: u32, lifts: u32) -> bool {
     let o = verdict::outcome_of(verdict::verdict(n, table));
-    told(name, figures_are(o, number, exponent, lifts))
+    figures_are(o, number, exponent, lifts)
 }
 
 // inverse: number, exponent and lifts, and what it leaves in the lent buffer.
 pub(crate) fn inverse_is(
-    name: &[u8],
     n: usize,
     table: &[i64],
     out: &mut [i64],
@@ -43,15 +34,11 @@ pub(crate) fn inverse_is(
     left: &[i64],
 ) -> bool {
     let o = verdict::inverse(n, table, out);
-    told(
-        name,
-        figures_are(o, number, exponent, lifts) && same(out, left),
-    )
+    figures_are(o, number, exponent, lifts) && same(out, left)
 }
 
 // Row i of the inverse, by the view of a row.
 pub(crate) fn inverse_row_is(
-    name: &[u8],
     n: usize,
     table: &[i64],
     out: &mut [i64],
@@ -59,12 +46,11 @@ pub(crate) fn inverse_row_is(
     row: &[i64],
 ) -> bool {
     verdict::inverse(n, table, out);
-    told(name, same(tables::row(n, out, i), row))
+    same(tables::row(n, out, i), row)
 }
 
 // lift: its number, and what it leaves in the lent buffer.
 pub(crate) fn lift_is(
-    name: &[u8],
     n: usize,
     lifts: usize,
     exponent: u32,
@@ -74,12 +60,11 @@ pub(crate) fn lift_is(
     left: &[i64],
 ) -> bool {
     let got = lifting::lift(n, lifts, exponent, table, out);
-    told(name, got == number && same(out, left))
+    got == number && same(out, left)
 }
 
 // Block j of the expansion with one lift (B_0, R_0, M_0, R_1), by the view of a block.
 pub(crate) fn block_is(
-    name: &[u8],
     n: usize,
     exponent: u32,
     table: &[i64],
@@ -88,25 +73,17 @@ pub(crate) fn block_is(
     block: &[i64],
 ) -> bool {
     lifting::lift(n, 1, exponent, table, out);
-    told(name, same(lifting::block(n, 1, out, j), block))
+    same(lifting::block(n, 1, out, j), block)
 }
 
 // The sheet reader on a bad text: line, column and reason, and the lent table as it was.
-pub(crate) fn sheet_is_bad(
-    name: &[u8],
-    text: &[u8],
-    line: usize,
-    column: usize,
-    reason: u32,
-) -> bool {
+pub(crate) fn sheet_is_bad(text: &[u8], line: usize, column: usize, reason: u32) -> bool {
     let mut table = [MARK; 1024];
     match sheets::read(text, &mut table) {
-        sheets::Answer::Sheet(_) => told(name, false),
-        sheets::Answer::Length => told(name, false),
-        sheets::Answer::Refused(p) => told(
-            name,
-            place_is(p, line, column, reason) && same(&table, &[MARK; 1024]),
-        ),
+        sheets::Answer::Sheet(_) => false,
+        sheets::Answer::Length => false,
+        sheets::Answer::Refused(p) => place_is(p, line, column, reason)
+            && same(&table, &[MARK; 1024]),
     }
 }
 
@@ -134,16 +111,4 @@ fn same(a: &[i64], b: &[i64]) -> bool
         i += 1;
     }
     true
-}
-
-// Prints a case's line, and hands its outcome on.
-fn told(name: &[u8], right: bool) -> bool {
-    if right {
-        io::write_all(STDOUT_FILENO, b"ok ");
-    } else {
-        io::write_all(STDOUT_FILENO, b"FAILED ");
-    }
-    io::write_all(STDOUT_FILENO, name);
-    io::write_all(STDOUT_FILENO, b"\n");
-    right
 }
