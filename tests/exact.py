@@ -33,6 +33,21 @@ def whole_inverse(a):
     return inverse
 
 
+def determinant(a):
+    """By Bareiss's elimination, every division exact."""
+    m, last, sign = [row[:] for row in a], 1, 1
+    for k in range(len(m)):
+        pivot = next((i for i in range(k, len(m)) if m[i][k]), NOTHING)
+        if pivot is NOTHING:
+            return 0
+        if pivot != k:
+            m[k], m[pivot], sign = m[pivot], m[k], -sign
+        for i in range(k + 1, len(m)):
+            m[i] = [(m[k][k] * x - m[i][k] * y) // last for x, y in zip(m[i], m[k])]
+        last = m[k][k]
+    return sign * last
+
+
 def inverse_mod(a, e):
     """An inverse modulo 2^e, or None: elimination with odd pivots."""
     n, x = len(a), 1 << e

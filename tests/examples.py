@@ -4,6 +4,7 @@ import subprocess
 import sys
 
 import exact
+import families
 
 ROOT = pathlib.Path(__file__).resolve().parent.parent
 ARCHIVE = ROOT / "target" / "staticlib" / "libhost.a"
@@ -20,22 +21,6 @@ def run(*command, text=None):
     return subprocess.run(list(map(str, command)), input=text, check=True, capture_output=True, cwd=ROOT).stdout.decode()
 
 
-def float_determinant(table):
-    """A float64 elimination with the largest pivots."""
-    a = [[float(v) for v in row] for row in table]
-    determinant = 1.0
-    for c in range(len(a)):
-        p = max(range(c, len(a)), key=lambda r: abs(a[r][c]))
-        if p != c:
-            a[p], a[c] = a[c], a[p]
-            determinant = -determinant
-        determinant *= a[c][c]
-        for r in range(c + 1, len(a)):
-            factor = a[r][c] / a[c][c]
-            a[r] = [x - factor * y for x, y in zip(a[r], a[c])]
-    return determinant
-
-
 def checks(lib):
     def sheets():
         for name, expected in SHEETS.items():
@@ -48,9 +33,9 @@ def checks(lib):
         a, b, c = table
         cross = [b[1] * c[2] - b[2] * c[1], b[2] * c[0] - b[0] * c[2], b[0] * c[1] - b[1] * c[0]]
         assert sum(x * y for x, y in zip(a, cross)) == 3
-        assert round(float_determinant(table)) == 1
+        assert round(families.float_determinant(table)) == 1
         assert exact.verdict(table)[0] == 7
-        return f"float64 says {float_determinant(table):.3f}"
+        return f"float64 says {families.float_determinant(table):.3f}"
 
     def host_in_c():
         run("gcc", "-Wall", "-Wextra", "-Werror", "-Iinclude", "examples/host.c", ARCHIVE, "-o", f"{lib.folder}/host_c")

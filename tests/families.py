@@ -31,16 +31,15 @@ def shuffled(rng, a):
     return [[row[j] for j in columns] for row in a]
 
 
-def disguised(rng, a, limit=LEGAL):
+def disguised(rng, a, limit=LEGAL, steps=None):
     """The same determinant up to sign: some row operations within the limit."""
     n = len(a)
     a = [row[:] for row in a]
-    for _ in range(2 * n):
-        i, j = rng.randrange(n), rng.randrange(n)
-        if i != j:
-            new = [v + rng.choice([-2, -1, 1, 2]) * w for v, w in zip(a[i], a[j])]
-            if max(map(abs, new)) <= limit:
-                a[i] = new
+    for _ in range(steps or 2 * n):
+        i, j, c = rng.randrange(n), rng.randrange(n), rng.choice([-2, -1, 1, 2])
+        new = [v + c * w for v, w in zip(a[i], a[j])]
+        if i != j and max(map(abs, new)) <= limit:
+            a[i] = new
     return shuffled(rng, a)
 
 
@@ -74,28 +73,37 @@ def determinant(rng, d, n):
     return disguised(rng, diagonal(values))
 
 
-def at_the_width(rng, entry):
-    """An inverse with exactly this entry: two steps of a chain whose product it is."""
-    for p in range(2**19, 2**17, -1):
-        if entry % p == 0 and abs(entry // p) <= LEGAL:
-            a = exact.identity(3)
-            a[0][1], a[1][2] = p, entry // p
+def at_the_width(entry):
+    """An inverse with exactly this corner, near ±2^37: it is the product of two entries less a third."""
+    p, q = 2**18 if entry > 0 else -(2**18), 2**19
+    return [[1, p, p * q - entry], [0, 1, q], [0, 0, 1]]
+
+
+def float_determinant(table):
+    """By a float64 elimination with the largest pivots."""
+    a = [[float(v) for v in row] for row in table]
+    determinant = 1.0
+    for c in range(len(a)):
+        p = max(range(c, len(a)), key=lambda r: abs(a[r][c]))
+        if a[p][c] == 0:
+            return 0.0
+        if p != c:
+            a[p], a[c] = a[c], a[p]
+            determinant = -determinant
+        determinant *= a[c][c]
+        for r in range(c + 1, len(a)):
+            factor = a[r][c] / a[c][c]
+            a[r] = [x - factor * y for x, y in zip(a[r], a[c])]
+    return determinant
+
+
+def misleading(rng):
+    """A table of determinant ±1 or ±3 of which a float64 elimination makes another number."""
+    while True:
+        n, d = rng.choice([3, 4, 5, 6, 8]), rng.choice([1, 3])
+        a = disguised(rng, diagonal([d] + [1] * (n - 1)), steps=40 * n)
+        if round(abs(float_determinant(a))) != d:
             return a
-    raise AssertionError(entry)
-
-
-def near_floats(rng):
-    """Tables whose determinant a float64 elimination rounds to 1 though it is not, or the other way round."""
-    n = rng.choice([4, 5, 6, 8])
-    a = unimodular(rng, n, LEGAL, 12 * n)
-    i = rng.randrange(n)
-    j = rng.randrange(n)
-    b = [row[:] for row in a]
-    b[i] = [3 * v for v in b[i]]
-    if max(map(abs, b[i])) > LEGAL:
-        b = [row[:] for row in a]
-        b[i][j] += 1 if b[i][j] < LEGAL else -1
-    return rng.choice([a, b])
 
 
 def tied_start(e, sign):
@@ -120,12 +128,12 @@ def every_kind(rng, count):
     fixed += [("zero", [[0] * n for _ in range(n)]) for n in (1, 2, 32)]
     fixed += [("all at the limit", [[LEGAL] * n for _ in range(n)]) for n in (1, 2, 32)]
     fixed += [("chain", chain(n, c, s)) for n in (2, 3, 4, 5, 8, 9, 16, 17, 32) for c in (1, 2, 2**10, LEGAL) for s in (1, -1)]
-    fixed += [("at the width", at_the_width(rng, v)) for v in (WIDTH, -WIDTH, WIDTH - 2**18, -(WIDTH - 2**18))]
-    fixed += [("past the width", at_the_width(rng, v)) for v in (WIDTH + 2**18, -(WIDTH + 2**18), WIDTH + 2**19)]
+    fixed += [("at the width", at_the_width(v)) for v in (WIDTH, -WIDTH, WIDTH - 1, -(WIDTH - 1))]
+    fixed += [("past the width", at_the_width(v)) for v in (WIDTH + 1, -(WIDTH + 1), WIDTH + 2**19)]
     fixed += [("determinant 1 modulo 2^19", [[24929, 0], [0, 673]])]
     yield from fixed
     made = len(fixed)
-    kinds = ["unimodular", "random", "odd", "triangular", "det 3", "det 2^j", "det 1 mod 2^need", "det 1 mod 2^64", "singular", "near floats", "one entry off"]
+    kinds = ["unimodular", "random", "odd", "triangular", "det 3", "det 2^j", "det 1 mod 2^need", "det 1 mod 2^64", "singular", "misleading", "one entry off"]
     while made < count:
         kind = kinds[made % len(kinds)]
         n = rng.choice([1, 2, 2, 3, 3, 4, 4, 5, 6, 7, 8, 9, 10, 12, 16, 17, 24, 32] if made % 3 else [2, 3, 4, 5])
@@ -146,16 +154,13 @@ def every_kind(rng, count):
         elif kind == "det 1 mod 2^need":
             yield kind, disguised(rng, diagonal([24929, 673] + [1] * max(0, n - 2)), 24929)
         elif kind == "det 1 mod 2^64":
-            # 2^64 + 1 = 274177 · 67280421310721, whose second factor is too large for one entry: 2^64 + 1 as a 2 by 2 block of quotients
             yield kind, disguised(rng, fermat(max(n, 4)))
         elif kind == "singular":
             a = random_table(rng, n, max(1, limit // 2))
-            if n > 1:
-                a[rng.randrange(n)] = [x + y for x, y in zip(a[0], a[-1])] if n > 2 else a[0][:]
-                a[1] = a[0][:]
-            yield kind, a
-        elif kind == "near floats":
-            yield kind, near_floats(rng)
+            a[-1] = [sum(column) for column in zip(*a[:2])] if n > 2 else [0] if n == 1 else a[0][:]
+            yield kind, shuffled(rng, a)
+        elif kind == "misleading":
+            yield kind, misleading(rng)
         else:
             a = unimodular(rng, n, limit, 6 * n)
             i, j = rng.randrange(n), rng.randrange(n)
@@ -165,9 +170,8 @@ def every_kind(rng, count):
 
 
 def fermat(n):
-    """A table of order n >= 4 with determinant 2^64 + 1 (2^16 four times around a cycle, and the identity), which is 1 modulo 2^64."""
+    """A table of order n >= 4 with determinant 2^64 + 1, which is 1 modulo 2^64: a cycle of four entries whose product is -2^64, an odd permutation."""
     a = exact.identity(n)
     for i in range(4):
         a[i][(i + 1) % 4] = 2**16 if i else -(2**16)
-    # det = 1 - (-1)^... the cycle's product: 1 + 2^64 by the sign above (order 4 has an odd cycle)
     return a
