@@ -7,13 +7,14 @@ import examples
 import hosts
 import house
 import lifts
+import program
 import tables
 import texts
 from library import Library
 
 passed = failed = 0
 library = Library(sys.argv[1])
-for module in (house, tables, lifts, texts, hosts, examples):
+for module in (house, tables, lifts, texts, program, hosts, examples):
     for check in module.checks(library):
         began = time.time()
         try:
