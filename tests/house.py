@@ -63,6 +63,13 @@ def must_fail_edits_are_refused_for_a_false_fact():
     return f"{len(edits)} edits"
 
 
+def every_edit_is_named_in_the_calls():
+    named = set(re.findall(r"`(\w+)`", (ROOT / "docs" / "CALLS.md").read_text(encoding="utf8")))
+    edits = {path.stem for path in CRATES.glob("*/must-fail/*.edit")}
+    assert edits <= named, edits - named
+    return f"{len(edits)} names"
+
+
 def public_calls_require_nothing():
     calls = {
         "tables/src/lib.rt": ["row"], "lifting/src/lib.rt": ["lift", "block"], "verdict/src/lib.rt": ["verdict", "inverse"],
@@ -80,5 +87,5 @@ def public_calls_require_nothing():
 def checks(lib):
     return [
         layout, definitions_to_believe, no_shortcut, every_definition_file_opens_with_its_names,
-        must_fail_edits_are_refused_for_a_false_fact, public_calls_require_nothing,
+        must_fail_edits_are_refused_for_a_false_fact, every_edit_is_named_in_the_calls, public_calls_require_nothing,
     ]
