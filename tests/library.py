@@ -1,13 +1,23 @@
-"""The built libraries, called from Python: libprobe (every public call on 8-byte numbers) and libhost (the calls of a C host)."""
-import ctypes
+"""The built libraries, called from Python through a driver: libprobe (every public call on 8-byte numbers) and libhost (the calls of a C host)."""
 import pathlib
 import struct
 
-SIZE = ctypes.c_size_t
+from driver import Driver
+
+VIEW = bytes(8 * 1024)
+FIGURES = bytes(8 * 4)
 
 
 def numbers(values):
-    return (ctypes.c_int64 * max(1, len(values)))(*values)
+    return struct.pack(f"<{len(values)}q", *values)
+
+
+def values(buffer):
+    return list(struct.unpack(f"<{len(buffer) // 8}q", buffer))
+
+
+def figures(buffer):
+    return struct.unpack("<4Q", buffer)
 
 
 def flat(table):
@@ -17,62 +27,48 @@ def flat(table):
 class Library:
     def __init__(self, folder):
         self.folder = pathlib.Path(folder).resolve()
-        self.probe = ctypes.CDLL(f"{self.folder}/libprobe.so")
-        self.host = ctypes.CDLL(f"{self.folder}/libhost.so")
-        for name in ("probe_row", "probe_block", "probe_report"):
-            getattr(self.probe, name).restype = SIZE
+        self.call = Driver(self.folder / "driver").call
 
     def lift(self, n, s, e, table, buffer):
         """The number, and the buffer as it is left."""
-        b = numbers(buffer)
-        k = self.probe.probe_lift(SIZE(n), SIZE(s), ctypes.c_uint32(e), numbers(table), SIZE(len(table)), b, SIZE(len(buffer)))
-        return k, list(b)[:len(buffer)]
+        k, after = self.call("probe_lift", (n, s, e), numbers(table), numbers(buffer))
+        return k, values(after)
 
     def verdict(self, n, table):
         """Number, exponent, lifts."""
-        figures = (ctypes.c_uint64 * 4)()
-        self.probe.probe_verdict(SIZE(n), numbers(table), SIZE(len(table)), figures, SIZE(4))
-        return tuple(figures)[:3]
+        _, told = self.call("probe_verdict", (n,), numbers(table), FIGURES)
+        return figures(told)[:3]
 
     def inverse(self, n, table, buffer):
         """Number, exponent, lifts, and the buffer as it is left."""
-        figures, b = (ctypes.c_uint64 * 4)(), numbers(buffer)
-        self.probe.probe_inverse(SIZE(n), numbers(table), SIZE(len(table)), b, SIZE(len(buffer)), figures, SIZE(4))
-        return tuple(figures)[:3], list(b)[:len(buffer)]
+        _, after, told = self.call("probe_inverse", (n,), numbers(table), numbers(buffer), FIGURES)
+        return figures(told)[:3], values(after)
 
     def row(self, n, table, i):
-        out = numbers([0] * 1024)
-        count = self.probe.probe_row(SIZE(n), numbers(table), SIZE(len(table)), SIZE(i), out, SIZE(1024))
-        return list(out)[:count]
+        count, out = self.call("probe_row", (n, i), numbers(table), VIEW)
+        return values(out)[:count]
 
     def block(self, n, s, buffer, j):
-        out = numbers([0] * 1024)
-        count = self.probe.probe_block(SIZE(n), SIZE(s), numbers(buffer), SIZE(len(buffer)), SIZE(j), out, SIZE(1024))
-        return list(out)[:count]
+        count, out = self.call("probe_block", (n, s, j), numbers(buffer), VIEW)
+        return values(out)[:count]
 
     def read(self, text, table):
         """The answer's figures, zeros after them, and the table as it is left."""
-        figures, t = (ctypes.c_uint64 * 4)(), numbers(table)
-        self.probe.probe_read(text, SIZE(len(text)), t, SIZE(len(table)), figures, SIZE(4))
-        return tuple(figures), list(t)[:len(table)]
+        _, after, told = self.call("probe_read", (), text, numbers(table), FIGURES)
+        return figures(told), values(after)
 
     def report(self, text, room):
-        out = ctypes.create_string_buffer(b"\x5a" * room, room)
-        count = self.probe.probe_report(text, SIZE(len(text)), out, SIZE(room))
-        return count, out.raw
+        return self.call("probe_report", (), text, b"\x5a" * room)
 
     def host_verdict(self, n, table):
-        return self.host.muljenta_verdict(SIZE(n), table, SIZE(len(table)))
+        return self.call("muljenta_verdict", (n,), table)[0]
 
     def host_inverse(self, n, table, size):
-        out = ctypes.create_string_buffer(b"\x5a" * size, size)
-        k = self.host.muljenta_inverse(SIZE(n), table, SIZE(len(table)), out, SIZE(size))
-        return k, out.raw
+        return self.call("muljenta_inverse", (n,), table, b"\x5a" * size)
 
 
-def table_bytes(values):
-    return b"".join(struct.pack("<i", v) for v in values)
+def table_bytes(entries):
+    return struct.pack(f"<{len(entries)}i", *entries)
 
 
-def inverse_bytes(values):
-    return b"".join(struct.pack("<q", v) for v in values)
+inverse_bytes = numbers

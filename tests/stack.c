@@ -1,6 +1,7 @@
 /* The stack that each exported call uses at order 32, by the bytes changed on a painted stack. */
 #define _GNU_SOURCE
 #include "muljenta.h"
+#include "probe.h"
 
 #include <stdio.h>
 #include <string.h>
@@ -8,18 +9,6 @@
 #include <ucontext.h>
 
 enum { N = 32, CELLS = N * N, LIFTS = 4, STACK = 1 << 20, MOST = 65536, KNOWN = 70000, LIMIT = 1 << 20 };
-
-uint32_t probe_lift(size_t n, size_t lifts, uint32_t exponent, const int64_t *table, size_t table_count,
-                    int64_t *expansion, size_t expansion_count);
-void probe_verdict(size_t n, const int64_t *table, size_t table_count, uint64_t *figures, size_t figures_count);
-void probe_inverse(size_t n, const int64_t *table, size_t table_count, int64_t *out, size_t out_count,
-                   uint64_t *figures, size_t figures_count);
-size_t probe_row(size_t n, const int64_t *table, size_t table_count, size_t i, int64_t *out, size_t out_count);
-size_t probe_block(size_t n, size_t lifts, const int64_t *expansion, size_t expansion_count, size_t j, int64_t *out,
-                   size_t out_count);
-void probe_read(const uint8_t *text, size_t text_bytes, int64_t *table, size_t table_count, uint64_t *figures,
-                size_t figures_count);
-size_t probe_report(const uint8_t *text, size_t text_bytes, uint8_t *out, size_t out_bytes);
 
 /* The table at work as numbers, as bytes and as a sheet, and room for the answers. */
 static int64_t table[CELLS], inverse[CELLS], expansion[(2 * LIFTS + 2) * CELLS];
