@@ -1,13 +1,13 @@
 """The examples: each sheet through the program certify, each host built and run."""
-import pathlib
 import subprocess
 import sys
 
 import exact
 import families
+import machine
+from machine import ROOT
 
-ROOT = pathlib.Path(__file__).resolve().parent.parent
-ARCHIVE = ROOT / "target" / "staticlib" / "libhost.a"
+ARCHIVE = machine.archive("host")
 
 SHEETS = {  # what document 01 says of them
     "good.sheet": "0 3 25 1\n1 -262144 137438953472\n0 1 -524288\n0 0 1\n",
@@ -17,14 +17,15 @@ SHEETS = {  # what document 01 says of them
 HOSTS = "0 1 -1 -1 2\n7\n"
 
 
-def run(*command, text=None):
-    return subprocess.run(list(map(str, command)), input=text, check=True, capture_output=True, cwd=ROOT).stdout.decode()
+def told(command, text=None):
+    """What a command prints, run in the repository; it must end well."""
+    return subprocess.run(command, input=text, check=True, capture_output=True, cwd=ROOT).stdout.decode()
 
 
 def checks(lib):
     def sheets():
         for name, expected in SHEETS.items():
-            assert run(ROOT / "target/bin/certify", text=(ROOT / "examples" / name).read_bytes()) == expected, name
+            assert told(machine.run("target/bin/certify"), text=(ROOT / "examples" / name).read_bytes()) == expected, name
         return f"{len(SHEETS)} sheets"
 
     def a_determinant_of_3_that_floats_call_1():
@@ -38,17 +39,25 @@ def checks(lib):
         return f"float64 says {families.float_determinant(table):.3f}"
 
     def host_in_c():
-        run("gcc", "-Wall", "-Wextra", "-Werror", "-Iinclude", "examples/host.c", ARCHIVE, "-o", f"{lib.folder}/host_c")
-        assert run(f"{lib.folder}/host_c") == HOSTS
+        program = lib.folder / "host_c"
+        told(machine.gcc("-Wall", "-Wextra", "-Werror", "-Iinclude", "examples/host.c", ARCHIVE, "-o", program))
+        assert told(machine.run(program)) == HOSTS
         return "examples/host.c"
 
     def host_in_python():
-        assert run(sys.executable, "examples/host.py", f"{lib.folder}/libhost.so") == HOSTS
+        library = f"{lib.folder}/libhost.so"
+        told(machine.gcc("-shared", "-o", library, "-Wl,--whole-archive", ARCHIVE, "-Wl,--no-whole-archive"))
+        assert told([sys.executable, "examples/host.py", library]) == HOSTS
         return "examples/host.py"
 
     def host_in_rust():
-        run("rustc", "--edition", "2021", "-o", f"{lib.folder}/host_rs", "examples/host.rs", "-C", f"link-arg={ARCHIVE}")
-        assert run(f"{lib.folder}/host_rs") == HOSTS
+        program = f"{lib.folder}/host_rs"
+        told(["rustc", "--edition", "2021", "-o", program, "examples/host.rs", "-C", f"link-arg={ARCHIVE}"])
+        assert told([program]) == HOSTS
         return "examples/host.rs"
 
-    return [sheets, a_determinant_of_3_that_floats_call_1, host_in_c, host_in_python, host_in_rust]
+    everywhere = [sheets, a_determinant_of_3_that_floats_call_1, host_in_c]
+    if machine.IS_X86:
+        return [*everywhere, host_in_python, host_in_rust]
+    machine.not_run("examples/host.py, examples/host.rs", "they need a Python and a Rust library for x86-64, which Debian's packages for this machine do not have")
+    return everywhere

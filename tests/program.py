@@ -1,20 +1,20 @@
 """The program certify itself: what it prints for an input, however the input comes."""
 import os
-import pathlib
 import random
 import subprocess
 import time
 
 import grammar
+import machine
 import texts
 
-CERTIFY = pathlib.Path(__file__).resolve().parent.parent / "target" / "bin" / "certify"
+CERTIFY = machine.run(machine.ROOT / "target" / "bin" / "certify")
 SEED, COUNT = 20261118, 400
 EMPTY = b"9 1 1 2\n"
 
 
 def printed(**how):
-    done = subprocess.run([CERTIFY], capture_output=True, timeout=60, **how)
+    done = subprocess.run(CERTIFY, capture_output=True, timeout=60, **how)
     assert done.returncode == 0 and done.stderr == b"", done
     return done.stdout
 
@@ -33,14 +33,14 @@ def checks(lib):
         return f"seed {SEED}, {COUNT} texts"
 
     def an_input_in_pieces():
-        """Short reads are continued."""
+        """Short reads are continued. The pauses are longer than a start under the emulator, so that every piece is a read of its own."""
         rng = random.Random(SEED)
         for text in (texts.THIN, grammar.written(32, [rng.randrange(-9, 10) for _ in range(1024)])):
-            with subprocess.Popen([CERTIFY], stdin=subprocess.PIPE, stdout=subprocess.PIPE) as program:
+            with subprocess.Popen(CERTIFY, stdin=subprocess.PIPE, stdout=subprocess.PIPE) as program:
                 for at in range(0, len(text), 1 + len(text) // 6):
                     program.stdin.write(text[at:at + 1 + len(text) // 6])
                     program.stdin.flush()
-                    time.sleep(0.02)
+                    time.sleep(0.1)
                 program.stdin.close()
                 assert program.stdout.read() == expected(text)
         return "2 texts in 6 pieces"
@@ -50,7 +50,7 @@ def checks(lib):
         folder = os.open("/", os.O_RDONLY)
         assert printed(stdin=subprocess.DEVNULL) == EMPTY and printed(stdin=folder) == EMPTY
         os.close(folder)
-        closed = subprocess.run(["sh", "-c", f"exec {CERTIFY} <&-"], capture_output=True, check=True)
+        closed = subprocess.run(["sh", "-c", 'exec "$@" <&-', "sh", *CERTIFY], capture_output=True, check=True)
         assert closed.stdout == EMPTY
         return "empty, a folder, closed"
 
