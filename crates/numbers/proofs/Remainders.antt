@@ -2,3 +2,4 @@ pub mod Congruence
 pub mod Division
 pub mod Remainder
 pub mod Shift
+pub mod Powers

@@ -10,53 +10,77 @@ ghost use Rattle.numbers.specs.Limits.{IsOrder};
 ghost use Rattle.numbers.specs.Remainder.{rem};
 ghost use Rattle.numbers.specs.Says.{Tells};
 ghost use Rattle.tables.specs.Tables.{_·⟨_⟩_, _≈⟨_⟩_, entries, block, tableAt};
-ghost use Rattle.tables.specs.Buffer.{Low, Has, Dot, Product, Shrink, Put, Balance, Extend, Copied};
+ghost use Rattle.tables.specs.Buffer.{Low, RowLow, Has, Dot, Product, Remain, Shrink, shrunk, Put, RowPut, Balance, Extend, Copied};
 
 // Block o becomes the product of blocks p and q.
 pub fn product(n: usize, buf: &mut [i64], p: usize, q: usize, o: usize)
     requires { ⌜ Product n (now buf) p q o ⌝ }
     ensures { λ _. ⌜ Put n (block n (now (buf .entry)) p ·⟨ n ⟩ block n (now (buf .entry)) q) o (now (buf .entry)) (now (buf .exit)) ⌝ }
 {
+    let mut i: usize = 0;
+    while i < n {
+        product_row(n, buf, p, q, o, i);
+        i += 1;
+    }
+}
+
+// Row i of it.
+fn product_row(n: usize, buf: &mut [i64], p: usize, q: usize, o: usize, i: usize)
+    requires { ⌜ Product n (now buf) p q o × (i < n) ⌝ }
+    ensures { λ _. ⌜ RowPut n (block n (now (buf .entry)) p ·⟨ n ⟩ block n (now (buf .entry)) q) o i (now (buf .entry)) (now (buf .exit)) ⌝ }
+{
     let m = n * n;
     let pa = p * m;
     let qa = q * m;
-    let oa = o * m;
-    let mut t: usize = 0;
-    let mut i: usize = 0;
+    let at = o * m + i * n;
     let mut j: usize = 0;
-    while t < m {
+    while j < n {
         let v = dot(n, buf, pa, buf, qa, i, j);
-        buf[oa + t] = v;
-        t += 1;
+        buf[at + j] = v;
         j += 1;
-        if j == n {
-            j = 0;
-            i += 1;
-        }
     }
+}
+
+// Block o becomes the balanced remainder by 2^e of the product of blocks p and q.
+pub fn remain(n: usize, e: u32, buf: &mut [i64], p: usize, q: usize, o: usize)
+    requires { ⌜ Remain n e (now buf) p q o ⌝ }
+    ensures { λ _. ⌜ Put n (λ (i j : ℕ). rem (2 ^ e) ((block n (now (buf .entry)) p ·⟨ n ⟩ block n (now (buf .entry)) q) i j)) o (now (buf .entry)) (now (buf .exit)) ⌝ }
+{
+    let mut x = [0u32; 1024];
+    let mut y = [0u32; 1024];
+    let m = n * n;
+    super::residues::take(m, buf, p * m, &mut x);
+    super::residues::take(m, buf, q * m, &mut y);
+    super::residues::product(n, &x, &y, buf, o);
+    balance(n, e, buf, o);
 }
 
 // Block s becomes itself less a times block m, divided by 2^e and rounded down.
 pub fn shrink(n: usize, e: u32, a: &[i64], buf: &mut [i64], m: usize, s: usize)
-    requires { ⌜ Shrink n e (now a) (now buf) m s ⌝ }
-    ensures { λ _. ⌜ Put n (λ (i j : ℕ). shrZ (block n (now (buf .entry)) s i j -ℤ (entries n (now (a .entry)) ·⟨ n ⟩ block n (now (buf .entry)) m) i j) (2 ^ e)) s (now (buf .entry)) (now (buf .exit)) ⌝ }
+    requires { ⌜ Shrink n e (now a) (now buf) m s × Low n (2 ^ 62) (block n (now buf) s) ⌝ }
+    ensures { λ _. ⌜ Put n (shrunk n e (now (a .entry)) (now (buf .entry)) m s) s (now (buf .entry)) (now (buf .exit)) ⌝ }
+{
+    let mut i: usize = 0;
+    while i < n {
+        shrink_row(n, e, a, buf, m, s, i);
+        i += 1;
+    }
+}
+
+// Row i of it.
+fn shrink_row(n: usize, e: u32, a: &[i64], buf: &mut [i64], m: usize, s: usize, i: usize)
+    requires { ⌜ Shrink n e (now a) (now buf) m s × ((i < n) × RowLow n (2 ^ 62) (block n (now buf) s) i) ⌝ }
+    ensures { λ _. ⌜ RowPut n (shrunk n e (now (a .entry)) (now (buf .entry)) m s) s i (now (buf .entry)) (now (buf .exit)) ⌝ }
 {
     let size = n * n;
     let ma = m * size;
-    let sa = s * size;
-    let mut t: usize = 0;
-    let mut i: usize = 0;
+    let at = s * size + i * n;
     let mut j: usize = 0;
-    while t < size {
+    while j < n {
         let d = dot(n, a, 0, buf, ma, i, j);
-        let v = numbers::shr(numbers::sub(buf[sa + t], d), e);
-        buf[sa + t] = v;
-        t += 1;
+        let v = numbers::shr(numbers::sub(buf[at + j], d), e);
+        buf[at + j] = v;
         j += 1;
-        if j == n {
-            j = 0;
-            i += 1;
-        }
     }
 }
 
@@ -97,19 +121,23 @@ pub fn identity(n: usize, buf: &mut [i64], o: usize)
     requires { ⌜ (IsOrder n) × (Has n (now buf) o) ⌝ }
     ensures { λ _. ⌜ Put n δ o (now (buf .entry)) (now (buf .exit)) ⌝ }
 {
-    let m = n * n;
-    let oa = o * m;
-    let mut t: usize = 0;
     let mut i: usize = 0;
+    while i < n {
+        identity_row(n, buf, o, i);
+        i += 1;
+    }
+}
+
+// Row i of it.
+fn identity_row(n: usize, buf: &mut [i64], o: usize, i: usize)
+    requires { ⌜ (IsOrder n) × ((Has n (now buf) o) × (i < n)) ⌝ }
+    ensures { λ _. ⌜ RowPut n δ o i (now (buf .entry)) (now (buf .exit)) ⌝ }
+{
+    let at = o * (n * n) + i * n;
     let mut j: usize = 0;
-    while t < m {
-        buf[oa + t] = unit(i, j);
-        t += 1;
+    while j < n {
+        buf[at + j] = unit(i, j);
         j += 1;
-        if j == n {
-            j = 0;
-            i += 1;
-        }
     }
 }
 
@@ -160,7 +188,7 @@ pub fn within(n: usize, buf: &[i64], o: usize, c: u64) -> bool
 }
 
 // Entry (i, j) of the product of the tables at places p and q.
-fn dot(n: usize, a: &[i64], p: usize, b: &[i64], q: usize, i: usize, j: usize) -> i64
+pub fn dot(n: usize, a: &[i64], p: usize, b: &[i64], q: usize, i: usize, j: usize) -> i64
     requires { ⌜ Dot n (now a) p (now b) q i j ⌝ }
     ensures { λ r. ⌜ r ≡ (tableAt n (now (a .entry)) p ·⟨ n ⟩ tableAt n (now (b .entry)) q) i j ⌝ }
 {

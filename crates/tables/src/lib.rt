@@ -6,7 +6,10 @@ ghost use Rattle.tables.specs.Views.{Stretch, HasRow, RowGives};
 
 pub mod blocks;
 pub mod checks;
+pub mod columns;
+pub mod elimination;
 pub mod parity;
+pub mod residues;
 
 // Row i (from 0) of a table of order n, as a part of the caller's own buffer; or the empty stretch at its start.
 pub fn row(n: usize, table: &[i64], i: usize) -> &[i64]

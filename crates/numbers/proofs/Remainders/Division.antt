@@ -4,12 +4,12 @@ use Prim.Native.Nat.{ℕ, zero, suc, _+_, _-_, _*_, _/_, _%_, _<_}
 use native.Mathlib.Nat.{mul-div-cancel-left, div-add-mod, mod-lt}
 use native.Mathlib.Omega.{arith}
 use lib.Arith.{digits-div}
-use lib.IntN.{ℤ, pos, negsuc, negℤ, _+ℤ_, _-ℤ_, _*ℤ_, zero-*ℤ}
+use lib.IntN.{ℤ, pos, negsuc, negℤ, natAbs, _+ℤ_, _-ℤ_, _*ℤ_, zero-*ℤ}
 use lib.Signed.{shrZ}
 use Rattle.numbers.specs.Remainder.{residue}
 use Rattle.numbers.proofs.Algebra.RingSolver.{ring, if_is_by_then_, #_, ⊝_, _⊕_, _⊖_, _⊗_, _≐_}
-use Rattle.numbers.proofs.Algebra.IntLinear.{integers, sums, scales}
-use Rattle.numbers.proofs.Remainders.Congruence.{Cong}
+use Rattle.numbers.proofs.Algebra.IntLinear.{integers, parts, minus, sums, scales}
+use Rattle.numbers.proofs.Remainders.Congruence.{Cong, cong-sym, cong-trans, cong-near, cong-+, cong-refl}
 
 module _ (x : ℕ) (h : 0 < x) where
   -- ---- rounded down
@@ -26,6 +26,18 @@ module _ (x : ℕ) (h : 0 < x) where
   pub residue-cong : (v : ℤ) → Cong (pos x) (pos (residue x v)) v
   residue-cong v =
       record { quot = negℤ (shrZ v x); eqn = ring 4 (λ v x q r. if v is x ⊗ q ⊕ r by ⊝ # 1 then r ⊖ v ≐ x ⊗ ⊝ q) tt v (pos x) (shrZ v x) (pos (residue x v)) (floor v) }
+
+  -- congruent numbers have one residue
+  pub residue-same : {v w : ℤ} → Cong (pos x) v w → residue x v ≡ residue x w
+  residue-same {v} {w} c =
+      let a : ℤ = pos (residue x v) in
+      let b : ℤ = pos (residue x w) in
+      ap natAbs (cong-near (cong-trans (residue-cong v) (cong-trans c (cong-sym (residue-cong w))))
+      (omega (arith, residue-below v, residue-below w, parts (a -ℤ b), sums a (negℤ b), minus b)))
+
+  -- a residue and a product more
+  pub residue-fold : (s : ℤ) (a b : ℕ) → (residue x s + a * b) % x ≡ residue x (s +ℤ pos a *ℤ pos b)
+  residue-fold s a b = residue-same (cong-+ (residue-cong s) (cong-refl (pos a *ℤ pos b)))
 
   -- ---- exact
 

@@ -51,3 +51,10 @@ rem-is X h v = go (leb (2 * r) X) (leb→le (2 * r) X) (nleb→lt (2 * r) X)
             eqn = ring 4 (λ v r x q. if v ⊖ r is x ⊗ q by # 1 then v ⊖ (r ⊖ x) ≐ x ⊗ (q ⊕ # 1)) tt v (pos r) (pos X) (c .quot) (c .eqn);
           };
         }
+
+-- congruent numbers have one remainder
+pub rem-same : (X : ℕ) → 0 < X → {v w : ℤ} → Cong (pos X) v w → rem X v ≡ rem X w
+rem-same X h {v} {w} c =
+    let p = rem-is X h v in
+    let q = rem-is X h w in
+    balanced-unique (p .balanced) (q .balanced) (cong-trans (cong-sym (p .congruent)) (cong-trans c (q .congruent)))

@@ -1,12 +1,13 @@
 -- What the kernels of blocks need and give at each place: bounds, sums of products, a division, an extension.
-use mathlib.Core.Path.{_≡_, sym, ap, ap₂, _∙_, subst}
+use mathlib.Core.Path.{_≡_, refl, sym, ap, ap₂, _∙_, subst}
 use mathlib.Core.List.{List}
 use Prim.Native.Nat.{ℕ, _+_, _*_, _-_, _/_, _%_, _^_, _≤_, _<_}
 use native.Mathlib.Nat.{mul-le-mul, mul-le-mul-right, suc-mul, mod-lt, div-lt-iff-lt-mul}
 use native.Mathlib.Omega.{arith}
 use lib.Arith.{digits-lt}
 use lib.IntN.{ℤ, pos, natAbs, _+ℤ_, _-ℤ_, _*ℤ_}
-use lib.ListN.{getD}
+use lib.ListN.{length, getD}
+use lib.Signed.{shrZ}
 use Rattle.numbers.proofs.Algebra.IntOrder.{*ℤ-bound, natAbs-sub}
 use Rattle.numbers.specs.Numbers.{IsRem}
 use Rattle.numbers.specs.Remainder.{rem}
@@ -14,10 +15,9 @@ use Rattle.numbers.proofs.Remainders.Remainder.{rem-is, rem-unique}
 use Rattle.numbers.proofs.Algebra.Sum.{sum, sum-one, sum-bound}
 use Rattle.tables.specs.Tables.{Matrix, _≈⟨_⟩_, _·⟨_⟩_, block, entries, tableAt}
 use Rattle.numbers.specs.Limits.{IsOrder}
-use Rattle.tables.specs.Buffer.{Low, Exact, Dot, Product, Shrink, Extend}
-use Rattle.tables.proofs.Algebra.Matrix.{·-cong, ·-bound}
-use Rattle.tables.proofs.Buffers.Wrote.{Wrote}
-use Rattle.tables.proofs.Buffers.Places.{flat, flat-at, flat-block, row-below, wrote-rest}
+use Rattle.tables.specs.Buffer.{Low, RowLow, Exact, ExactAt, Dot, Product, Shrink, shrunk, Extend}
+use Rattle.tables.proofs.Algebra.Matrix.{≈-sym, ·-cong, ·-bound}
+use Rattle.tables.proofs.Buffers.Places.{flat, flat-block, Beside}
 
 -- ---- bounds
 
@@ -26,6 +26,9 @@ low-≈ {n} {c} e l = record { low = λ i j h k. subst (λ (z : ℤ). natAbs z �
 
 pub exact-≈ : {n : ℕ} {A B C D : Matrix} → A ≈⟨ n ⟩ C → B ≈⟨ n ⟩ D → Exact n A B → Exact n C D
 exact-≈ e f x = record { c = x .c; d = x .d; left = low-≈ e (x .left); right = low-≈ f (x .right); room = x .room }
+
+pub exact-at : {n : ℕ} {A B : Matrix} {i j : ℕ} → Exact n A B → i < n → j < n → ExactAt n A B i j
+exact-at {i = i} {j = j} x h k = record { c = x .c; d = x .d; left = λ l m. x .left .low i l h m; right = λ l m. x .right .low l j m k; room = x .room }
 
 -- a part of the sum, and one product more
 pub dot-room : {n : ℕ} {A : List ℤ} {p : ℕ} {B : List ℤ} {q i j : ℕ} → Dot n A p B q i j → (k : ℕ) → k < n
@@ -36,8 +39,8 @@ dot-room {n} {A} {p} {B} {q} {i} {j} r k h =
     let d : ℕ = x .d in
     let s : natAbs (sum k (λ l. tableAt n A p i l *ℤ tableAt n B q l j)) ≤ k * (c * d) =
     sum-bound k (λ l. tableAt n A p i l *ℤ tableAt n B q l j) (c * d)
-    (λ l m. *ℤ-bound (tableAt n A p i l) (tableAt n B q l j) (x .left .low i l (r .row) (below l m h)) (x .right .low l j (below l m h) (r .column))) in
-    let t : natAbs (tableAt n A p i k) * natAbs (tableAt n B q k j) ≤ c * d = mul-le-mul (x .left .low i k (r .row) h) (x .right .low k j h (r .column)) in
+    (λ l m. *ℤ-bound (tableAt n A p i l) (tableAt n B q l j) (x .left l (below l m h)) (x .right l (below l m h))) in
+    let t : natAbs (tableAt n A p i k) * natAbs (tableAt n B q k j) ≤ c * d = mul-le-mul (x .left k h) (x .right k h) in
     omega (arith, x .room, suc-mul k (c * d), mul-le-mul-right (c * d) h)
   where
     below : (l : ℕ) → l < k → k < n → l < n
@@ -48,64 +51,62 @@ pub dot-more : (n : ℕ) (A : List ℤ) (p : ℕ) (B : List ℤ) (q i j k : ℕ)
     → sum k (λ l. tableAt n A p i l *ℤ tableAt n B q l j) +ℤ tableAt n A p i k *ℤ tableAt n B q k j ≡ sum (k + 1) (λ l. tableAt n A p i l *ℤ tableAt n B q l j)
 dot-more n A p B q i j k = sym (sum-one k (λ l. tableAt n A p i l *ℤ tableAt n B q l j))
 
--- ---- a product, while block o is written
+-- ---- a product, while block o is written: the factors are as they were
 
-module _ {n : ℕ} {L : List ℤ} {p q o : ℕ} (m : Product n L p q o) {f : ℕ → ℤ} {t : ℕ} {K : List ℤ} (w : Wrote f (o * (n * n)) t L K) (l : t < n * n) (i j : ℕ) (e : i * n + j ≡ t) (h : j < n) where
-  p-kept : block n K p ≈⟨ n ⟩ block n L p
-  p-kept = wrote-rest n o (omega arith) w p (m .apart)
+module _ {n : ℕ} {L : List ℤ} {p q o : ℕ} (m : Product n L p q o) where
+  pub product-dot : {i j : ℕ} → i < n → j < n → Dot n L (p * (n * n)) L (q * (n * n)) i j
+  product-dot h k = record { order = m .order; left = m .left; right = m .right; row = h; column = k; exact = exact-at (m .exact) h k }
 
-  q-kept : block n K q ≈⟨ n ⟩ block n L q
-  q-kept = wrote-rest n o (omega arith) w q (m .apart′)
+  module _ {K : List ℤ} (w : Beside n o L K) where
+    pub product-kept : Product n K p q o
+    product-kept = record {
+      order = m .order;
+      left = omega (arith, m .left, w .long);
+      right = omega (arith, m .right, w .long);
+      target = omega (arith, m .target, w .long);
+      apart = m .apart;
+      apart′ = m .apart′;
+      exact = exact-≈ (≈-sym (w .rest p (m .apart))) (≈-sym (w .rest q (m .apart′))) (m .exact);
+    }
 
-  pub product-asks : Dot n K (p * (n * n)) K (q * (n * n)) i j
-  product-asks = record {
-    order = m .order;
-    left = let a = m .left in let b = w .long in omega arith;
-    right = let a = m .right in let b = w .long in omega arith;
-    row = row-below n t i j e l;
-    column = h;
-    exact = exact-≈ (λ i j a b. sym (p-kept i j a b)) (λ i j a b. sym (q-kept i j a b)) (m .exact);
-  }
-
-  pub product-gives : (block n K p ·⟨ n ⟩ block n K q) i j ≡ flat n (block n L p ·⟨ n ⟩ block n L q) t
-  product-gives = ·-cong n p-kept q-kept i j (row-below n t i j e l) h ∙ sym (flat-at n (block n L p ·⟨ n ⟩ block n L q) t i j e h)
+    pub product-same : block n K p ·⟨ n ⟩ block n K q ≈⟨ n ⟩ block n L p ·⟨ n ⟩ block n L q
+    product-same = ·-cong n (w .rest p (m .apart)) (w .rest q (m .apart′))
 
 pub at-zero : (n : ℕ) (A : List ℤ) → tableAt n A 0 ≈⟨ n ⟩ entries n A
 at-zero n A i j h k = let e : 0 + (i * n + j) ≡ i * n + j = omega arith in ap (λ (m : ℕ). getD A m (pos 0)) e
 
--- ---- a division, while block s is written
+-- ---- a division, while block s is written: the factor is as it was, and so are the rows that are not reached
 
--- the entry to be divided
-abbrev pub gap : ℕ → List ℤ → List ℤ → ℕ → ℕ → Matrix
-gap n A L m s i j = block n L s i j -ℤ (entries n A ·⟨ n ⟩ block n L m) i j
-
-module _ {n e : ℕ} {A L : List ℤ} {m s : ℕ} (r : Shrink n e A L m s) {f : ℕ → ℤ} {t : ℕ} {K : List ℤ} (w : Wrote f (s * (n * n)) t L K) (l : t < n * n) (i j : ℕ) (q : i * n + j ≡ t) (h : j < n) where
-  m-kept : block n K m ≈⟨ n ⟩ block n L m
-  m-kept = wrote-rest n s (omega arith) w m (r .apart)
-
-  pub shrink-asks : Dot n A 0 K (m * (n * n)) i j
-  shrink-asks = record {
+module _ {n e : ℕ} {A L : List ℤ} {m s : ℕ} (r : Shrink n e A L m s) where
+  pub shrink-dot : {i j : ℕ} → i < n → j < n → Dot n A 0 L (m * (n * n)) i j
+  shrink-dot h k = record {
     order = r .order;
-    left = let a = r .size in omega arith;
-    right = let a = r .factor in let b = w .long in omega arith;
-    row = row-below n t i j q l;
-    column = h;
-    exact = exact-≈ (λ i j a b. sym (at-zero n A i j a b)) (λ i j a b. sym (m-kept i j a b)) (r .exact);
+    left = omega (arith, r .size);
+    right = r .factor;
+    row = h;
+    column = k;
+    exact = exact-at (exact-≈ (≈-sym (at-zero n A)) (λ i j a b. refl) (r .exact)) h k;
   }
 
-  -- the entry that is read
-  pub shrink-reads : getD K (s * (n * n) + t) (pos 0) ≡ block n L s i j
-  shrink-reads = w .after (s * (n * n) + t) (omega arith) ∙ ap (λ (z : ℕ). getD L (s * (n * n) + z) (pos 0)) (sym q)
-
-  -- the sum that is subtracted
-  pub shrink-sum : (tableAt n A 0 ·⟨ n ⟩ block n K m) i j ≡ (entries n A ·⟨ n ⟩ block n L m) i j
-  shrink-sum = ·-cong n (at-zero n A) m-kept i j (row-below n t i j q l) h
-
-  pub shrink-room : natAbs (gap n A L m s i j) < 2 ^ 63
-  shrink-room =
+  pub shrink-room : {i j : ℕ} → i < n → j < n → RowLow n (2 ^ 62) (block n L s) i → natAbs (block n L s i j -ℤ (entries n A ·⟨ n ⟩ block n L m) i j) < 2 ^ 63
+  shrink-room {i} {j} h k low =
       let x = r .exact in
-      let u : i < n = row-below n t i j q l in
-      omega (arith, natAbs-sub (block n L s i j) ((entries n A ·⟨ n ⟩ block n L m) i j), r .room .low i j u h, x .room, ·-bound n (entries n A) (block n L m) {a = x .c} {b = x .d} (x .left .low) (x .right .low) i j u h)
+      omega (arith, natAbs-sub (block n L s i j) ((entries n A ·⟨ n ⟩ block n L m) i j), low j k, x .room, ·-bound n (entries n A) (block n L m) {a = x .c} {b = x .d} (x .left .low) (x .right .low) i j h k)
+
+  module _ {K : List ℤ} (w : Beside n s L K) where
+    pub shrink-kept : Shrink n e A K m s
+    shrink-kept = record {
+      order = r .order;
+      exponent = r .exponent;
+      size = r .size;
+      factor = omega (arith, r .factor, w .long);
+      target = omega (arith, r .target, w .long);
+      apart = r .apart;
+      exact = exact-≈ (λ i j a b. refl) (≈-sym (w .rest m (r .apart))) (r .exact);
+    }
+
+    pub shrink-same : {i j : ℕ} → i < n → j < n → block n K s i j ≡ block n L s i j → shrunk n e A K m s i j ≡ shrunk n e A L m s i j
+    shrink-same {i} {j} h k q = ap₂ (λ x y. shrZ (x -ℤ y) (2 ^ e)) q (·-cong n {A = entries n A} (λ i j a b. refl) (w .rest m (r .apart)) i j h k)
 
 -- a bound of a block, by places
 pub low-flat : {n c : ℕ} (L : List ℤ) (b : ℕ) → IsOrder n → Low n c (block n L b) → (t : ℕ) → t < n * n → natAbs (getD L (b * (n * n) + t) (pos 0)) ≤ c

@@ -1,5 +1,5 @@
 -- The places of a block: its entries row by row, the next place, and that writing one block keeps the others.
-use mathlib.Core.Path.{_≡_, sym, ap, ap₂, _∙_}
+use mathlib.Core.Path.{_≡_, refl, sym, ap, ap₂, _∙_}
 use mathlib.Core.Logic.{_≢_, _⊎_, inl, inr}
 use mathlib.Core.List.{List}
 use Prim.Native.Nat.{ℕ, _+_, _*_, _-_, _/_, _%_, _≤_, _<_}
@@ -9,10 +9,10 @@ use native.Mathlib.Numerals.{add-one}
 use native.Mathlib.Omega.{arith}
 use lib.Arith.{digits-lt, digits-div, digits-mod}
 use lib.IntN.{ℤ, pos}
-use lib.ListN.{getD}
+use lib.ListN.{length, getD}
 use Rattle.tables.specs.Tables.{Matrix, _≈⟨_⟩_, block}
-use Rattle.tables.specs.Buffer.{Put}
-use Rattle.tables.proofs.Buffers.Wrote.{Wrote}
+use Rattle.tables.specs.Buffer.{Put, RowPut, Wrote}
+use Rattle.tables.proofs.Buffers.Wrote.{wrote-none, wrote-join}
 
 pub square-small : {n : ℕ} → n ≤ 32 → n * n ≤ 1024
 square-small h = mul-le-mul h h
@@ -28,29 +28,18 @@ flat-at n F t i j e h = ap (flat n F) (sym e) ∙ ap₂ F (digits-div i h) (digi
 pub flat-block : (n : ℕ) (L : List ℤ) (b t : ℕ) → flat n (block n L b) t ≡ getD L (b * (n * n) + t) (pos 0)
 flat-block n L b t = ap (λ (m : ℕ). getD L (b * (n * n) + m) (pos 0)) (div-add-mod' t n)
 
--- the row of a place
-pub row-below : (n t i j : ℕ) → i * n + j ≡ t → t < n * n → i < n
-row-below n t i j e h = elim (decLt i n) [
-  | yes l ↦ l
-  | no f ↦ absurd (let g : n ≤ i = omega arith in let k = mul-le-mul-right n g in omega arith)
-]
+pub next-row : (i n : ℕ) → (i + 1) * n ≡ i * n + n
+next-row i n = ap (λ (m : ℕ). m * n) (add-one i) ∙ suc-mul i n
 
--- the next place
-pub same-row : (n t i j : ℕ) → i * n + j ≡ t → i * n + (j + 1) ≡ t + 1
-same-row n t i j e = omega arith
+-- where a row ends
+pub row-end : {n i : ℕ} → i < n → i * n + n ≤ n * n
+row-end {n} {i} h = let l : i + 1 ≤ n = omega arith in omega (arith, mul-le-mul-right n l, next-row i n)
 
-pub next-row : (n t i j : ℕ) → i * n + j ≡ t → j + 1 ≡ n → (i + 1) * n + 0 ≡ t + 1
-next-row n t i j e f = let g : (i + 1) * n ≡ i * n + n = ap (λ (m : ℕ). m * n) (add-one i) ∙ suc-mul i n in omega arith
-
--- where a block stands
-pub block-end : (b N : ℕ) → (b + 1) * N ≡ b * N + N
-block-end b N = ap (λ (m : ℕ). m * N) (add-one b) ∙ suc-mul b N
-
-beside : (b o N : ℕ) → b ≢ o → (b * N + N ≤ o * N) ⊎ (o * N + N ≤ b * N)
+pub beside : (b o N : ℕ) → b ≢ o → (b * N + N ≤ o * N) ⊎ (o * N + N ≤ b * N)
 beside b o N ne = go (decLt b o)
   where
     less : (b o : ℕ) → b < o → b * N + N ≤ o * N
-    less b o l = let h : (b + 1) * N ≤ o * N = mul-le-mul-right N (up l) in let e = block-end b N in omega arith
+    less b o l = let h : (b + 1) * N ≤ o * N = mul-le-mul-right N (up l) in let e = next-row b N in omega arith
       where
         up : b < o → b + 1 ≤ o
         up l = omega arith
@@ -63,19 +52,55 @@ beside b o N ne = go (decLt b o)
     go (no f) = inr (less o b (more f))
 
 -- what is written in block o keeps the others
-pub kept-at : {f : ℕ → ℤ} {t : ℕ} {old new : List ℤ} (n o : ℕ) → t ≤ n * n → Wrote f (o * (n * n)) t old new → (b : ℕ) → b ≢ o → (x : ℕ) → x < n * n → getD new (b * (n * n) + x) (pos 0) ≡ getD old (b * (n * n) + x) (pos 0)
-kept-at {t = t} n o l w b ne x d =
-    elim (beside b o (n * n) ne) [
-      | inl g ↦ w .before (b * (n * n) + x) (omega arith)
-      | inr g ↦ w .after (b * (n * n) + x) (omega arith)
-    ]
+module _ {f : ℕ → ℤ} {P t : ℕ} {old new : List ℤ} (n o : ℕ) (from : o * (n * n) ≤ P) (upto : P + t ≤ o * (n * n) + n * n) (w : Wrote (pos 0) f P t old new) where
+  pub kept-at : (b : ℕ) → b ≢ o → (x : ℕ) → x < n * n → getD new (b * (n * n) + x) (pos 0) ≡ getD old (b * (n * n) + x) (pos 0)
+  kept-at b ne x d = elim (beside b o (n * n) ne) [
+    | inl g ↦ w .before (b * (n * n) + x) (omega arith)
+    | inr g ↦ w .after (b * (n * n) + x) (omega arith)
+  ]
 
-pub wrote-rest : {f : ℕ → ℤ} {t : ℕ} {old new : List ℤ} (n o : ℕ) → t ≤ n * n → Wrote f (o * (n * n)) t old new → (b : ℕ) → b ≢ o → block n new b ≈⟨ n ⟩ block n old b
-wrote-rest n o l w b ne i j h k = kept-at n o l w b ne (i * n + j) (digits-lt h k)
+  pub wrote-rest : (b : ℕ) → b ≢ o → block n new b ≈⟨ n ⟩ block n old b
+  wrote-rest b ne i j h k = kept-at b ne (i * n + j) (digits-lt h k)
 
-pub put-of : {F : Matrix} {old new : List ℤ} (n o : ℕ) → Wrote (flat n F) (o * (n * n)) (n * n) old new → Put n F o old new
+pub put-of : {F : Matrix} {old new : List ℤ} (n o : ℕ) → Wrote (pos 0) (flat n F) (o * (n * n)) (n * n) old new → Put n F o old new
 put-of {F} n o w = record {
   long = w .long;
   there = λ i j h k. w .inside (i * n + j) (digits-lt h k) ∙ ap₂ F (digits-div i k) (digits-mod i k);
-  rest = wrote-rest n o (omega arith) w;
+  rest = wrote-rest n o (omega arith) (omega arith) w;
 }
+
+-- ---- row by row: the first i rows of block o are those of F
+
+pub record Rows (n : ℕ) (F : Matrix) (o i : ℕ) (old new : List ℤ) : Type 0 where
+  pub upto : i ≤ n
+  pub wrote : Wrote (pos 0) (flat n F) (o * (n * n)) (i * n) old new
+
+pub rows-none : {n o : ℕ} {F : Matrix} (L : List ℤ) → Rows n F o 0 L L
+rows-none {n} L = let e : 0 * n ≡ 0 = omega arith in record { upto = omega arith; wrote = rw e (wrote-none _ _ _) }
+
+pub rows-more : {n o i : ℕ} {F G : Matrix} {L K M : List ℤ} → i < n → Rows n F o i L K → RowPut n G o i K M → ((j : ℕ) → j < n → G i j ≡ F i j) → Rows n F o (i + 1) L M
+rows-more {n} {o} {i} {F} h r w e = record {
+  upto = omega arith;
+  wrote = rw (next-row i n) (wrote-join (r .wrote) (w .wrote) (λ j l. e j l ∙ sym (flat-at n F (i * n + j) i j refl l)));
+}
+
+pub rows-put : {n o i : ℕ} {F : Matrix} {L K : List ℤ} → n ≤ i → Rows n F o i L K → Put n F o L K
+rows-put {n} {o} {i} {F} {L} {K} h r = let e : i ≡ n = omega (arith, r .upto) in put-of n o (rw e at (r .wrote))
+
+-- every block but o is as it was
+pub record Beside (n o : ℕ) (old new : List ℤ) : Type 0 where
+  pub long : length new ≡ length old
+  pub rest : (b : ℕ) → b ≢ o → block n new b ≈⟨ n ⟩ block n old b
+
+pub rows-rest : {n o i : ℕ} {F : Matrix} {L K : List ℤ} → Rows n F o i L K → Beside n o L K
+rows-rest {n} {o} r = record {
+  long = r .wrote .long;
+  rest = wrote-rest n o (omega arith) (let h = mul-le-mul-right n (r .upto) in omega arith) (r .wrote);
+}
+
+pub row-rest : {n o i j : ℕ} {f : ℕ → ℤ} {L K : List ℤ} → i < n → j ≤ n → Wrote (pos 0) f (o * (n * n) + i * n) j L K → Beside n o L K
+row-rest {n} {o} h l w = record { long = w .long; rest = wrote-rest n o (omega arith) (omega (arith, row-end h)) w }
+
+-- the rows from i on are as they were
+pub rows-left : {n o i : ℕ} {F : Matrix} {L K : List ℤ} → Rows n F o i L K → (j : ℕ) → block n K o i j ≡ block n L o i j
+rows-left r j = r .wrote .after _ (omega arith)

@@ -1,9 +1,11 @@
+use lib.IntN.{pos}
 use mathlib.Core.Path.{_≡_, _∙_}
 use Prim.Native.Nat.{_*_, _-_, _^_, _≤_}
 use native.Mathlib.Omega.{arith}
 use Rattle.numbers.proofs.Machine.{rd-ok}
 use Rattle.tables.specs.Tables.{block}
-use Rattle.tables.proofs.Buffers.Wrote.{Wrote, wrote-none, wrote-more}
+use Rattle.tables.specs.Buffer.{Wrote}
+use Rattle.tables.proofs.Buffers.Wrote.{wrote-none, wrote-more}
 use lib.Pow.{pow-pos}
 use Rattle.numbers.specs.Remainder.{rem}
 use Rattle.tables.proofs.Buffers.Places.{square-small, flat, put-of}
@@ -12,7 +14,7 @@ use Rattle.tables.proofs.blocks.balance.Statement.{statement}
 use Rattle.tables.proofs.blocks.balance.Tie as tie
 
 abbrev Inv-loop : tie.InvT-loop
-Inv-loop n e buf₀ o m oa t₀ buf t = (t ≤ n * n) × Wrote (flat n (λ i j. rem (2 ^ e) (block n buf₀ o i j))) (o * (n * n)) t buf₀ buf
+Inv-loop n e buf₀ o m oa t₀ buf t = (t ≤ n * n) × Wrote (pos 0) (flat n (λ i j. rem (2 ^ e) (block n buf₀ o i j))) (o * (n * n)) t buf₀ buf
 
 abbrev μ-loop : tie.MeasureT-loop
 μ-loop n e buf₀ o m oa t₀ buf t = n * n - t

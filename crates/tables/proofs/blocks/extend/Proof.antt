@@ -5,14 +5,15 @@ use lib.IntN.{ℤ, pos, _+ℤ_, _*ℤ_}
 use lib.ListN.{getD}
 use Rattle.numbers.proofs.Machine.{rd, rd-ok, rd-got}
 use Rattle.tables.specs.Tables.{block}
-use Rattle.tables.proofs.Buffers.Wrote.{Wrote, wrote-none, wrote-more}
+use Rattle.tables.specs.Buffer.{Wrote}
+use Rattle.tables.proofs.Buffers.Wrote.{wrote-none, wrote-more}
 use Rattle.tables.proofs.Buffers.Places.{square-small, flat, put-of, kept-at}
 use Rattle.tables.proofs.Buffers.Kernels.{extend-gives, extend-room}
 use Rattle.tables.proofs.blocks.extend.Statement.{statement}
 use Rattle.tables.proofs.blocks.extend.Tie as tie
 
 abbrev Inv-loop : tie.InvT-loop
-Inv-loop n e buf₀ c d m ca da x t₀ buf t = (t ≤ n * n) × Wrote (flat n (λ i j. block n buf₀ c i j +ℤ pos (2 ^ e) *ℤ block n buf₀ d i j)) (c * (n * n)) t buf₀ buf
+Inv-loop n e buf₀ c d m ca da x t₀ buf t = (t ≤ n * n) × Wrote (pos 0) (flat n (λ i j. block n buf₀ c i j +ℤ pos (2 ^ e) *ℤ block n buf₀ d i j)) (c * (n * n)) t buf₀ buf
 
 abbrev μ-loop : tie.MeasureT-loop
 μ-loop n e buf₀ c d m ca da x t₀ buf t = n * n - t
@@ -34,7 +35,7 @@ second : (c : tie.After-mac-arg2 Inv-loop μ-loop) → let l = c .before .before
 second c =
     let l = c .before .before .before in
     let s = l .before .before in
-    rd-ok _ (c .mac-arg2 .given) ∙ kept-at (s .args .n) (s .args .c) (l .loop .inv .0) (l .loop .inv .1) (s .args .d) (s .pre .apart) (l .loop .t) (c .before .before .loop-test .taken)
+    rd-ok _ (c .mac-arg2 .given) ∙ kept-at (s .args .n) (s .args .c) (omega arith) (omega (arith, l .loop .inv .0)) (l .loop .inv .1) (s .args .d) (s .pre .apart) (l .loop .t) (c .before .before .loop-test .taken)
 
 power : (c : tie.After-pow2 Inv-loop μ-loop) → rd (c .pow2 .result) ≡ pos (2 ^ (c .before .args .e))
 power c = rd-got (c .pow2 .result) (c .pow2 .ok) (c .pow2 .ensures)

@@ -1,18 +1,17 @@
 use mathlib.Core.Logic.{⊎-elim}
-use mathlib.Core.Path.{_≡_, sym, _∙_, subst₂}
+use mathlib.Core.Path.{sym, _∙_, subst}
 use mathlib.Core.List.{List}
 use Prim.Native.Nat.{ℕ, _+_, _-_, _≤_}
 use native.Mathlib.Omega.{arith}
-use Rattle.tables.proofs.Elimination.Stages.{clear-all}
-use Rattle.tables.proofs.Elimination.Words.{Cleared, words-none, words-pivot, words-pass, words-join}
+use Rattle.tables.proofs.Reduction.Words.{Cleared, words-none, words-pivot, words-pass, words-join, words-all}
 use Rattle.tables.proofs.parity.clear.Statement.{statement}
 use Rattle.tables.proofs.parity.clear.Tie as tie
 
 abbrev Inv-loop : tie.InvT-loop
-Inv-loop n r c₀ p₀ m₀ c p m = (m ≤ n) × Cleared n m r c₀ p₀ c p
+Inv-loop n r p₀ m₀ p m = (m ≤ n) × Cleared n m r p₀ p
 
 abbrev μ-loop : tie.MeasureT-loop
-μ-loop n r c₀ p₀ m₀ c p m = n - m
+μ-loop n r p₀ m₀ p m = n - m
 
 loop-holds : tie.Need-loop-holds Inv-loop μ-loop
 loop-holds c = (omega arith, words-none (c .pre .0 .1) (c .pre .1))
@@ -29,40 +28,29 @@ bit-requires c κs = omega arith
 join-requires : tie.Need-join-requires Inv-loop μ-loop
 join-requires c κs = omega arith
 
-join-requires-2 : tie.Need-join-requires-2 Inv-loop μ-loop
-join-requires-2 c κs = omega arith
-
 add-m : tie.Need-add-m Inv-loop μ-loop
 add-m c = omega arith
 
 loop-less : tie.Need-loop-less Inv-loop μ-loop
 loop-less c = omega arith
 
-abbrev Goal : tie.Joined1 Inv-loop μ-loop → List ℕ → List ℕ → Type 0
-Goal c x y =
+abbrev Goal : tie.Joined1 Inv-loop μ-loop → List ℕ → Type 0
+Goal c x =
     let g = c .before .before .before .args in
-    Cleared (g .n) (c .before .before .loop .m + 1) (g .r) (g .c .now) (g .p .now) x y
+    Cleared (g .n) (c .before .before .loop .m + 1) (g .r) (g .p .now) x
 
 loop-again : tie.Need-loop-again Inv-loop μ-loop
 loop-again c =
-    let l = c .before .before .loop in (
+    let q = c .before .before .loop .inv .1 in (
       omega arith,
-      ⊎-elim
-          (λ w.
-          subst₂ (Goal c) (sym (w .8 ∙ w .5 .ensures)) (sym (w .9 ∙ w .7 .ensures))
-          (words-join (omega arith) (omega arith) (w .0 .taken) (λ e. w .3 .taken (w .2 .ensures ∙ e)) (l .inv .1)))
-          (⊎-elim
-          (λ w.
-          subst₂ (Goal c) (sym (w .4)) (sym (w .5)) (words-pass (w .0 .taken) (sym (w .2 .ensures) ∙ w .3 .left) (l .inv .1)))
-          (λ w. subst₂ (Goal c) (sym (w .1)) (sym (w .2)) (words-pivot (w .0 .left) (l .inv .1))))
+      ⊎-elim (λ w. subst (Goal c) (sym (w .6 ∙ w .5 .ensures)) (words-join q (omega arith) (omega arith) (w .0 .taken) (λ e. w .3 .taken (w .2 .ensures ∙ e))))
+          (⊎-elim (λ w. subst (Goal c) (sym (w .4)) (words-pass q (w .0 .taken) (sym (w .2 .ensures) ∙ w .3 .left)))
+          (λ w. subst (Goal c) (sym (w .1)) (words-pivot q (w .0 .left))))
           (c .if1 .came),
     )
 
 returns : tie.Need-returns Inv-loop μ-loop
-returns c =
-    let q = c .before .loop .inv .1 in
-    let e : c .before .loop .m ≡ c .before .before .args .n = omega arith in
-    (q .sized, record { on = λ A g. clear-all e (q .goes A g) })
+returns c = let q = c .before .loop .inv .1 in (q .sized, words-all q (omega arith))
 
 pub clear-spec : {M : Type 1} → statement M
 clear-spec =
@@ -75,7 +63,6 @@ clear-spec =
     element-copy-out-bit
     bit-requires
     join-requires
-    join-requires-2
     add-m
     loop-less
     loop-again

@@ -8,8 +8,8 @@ use Rattle.numbers.proofs.Machine.{rd-ok}
 use Rattle.tables.specs.Tables.{entries}
 use Rattle.tables.specs.Parity.{Loaded}
 use Rattle.tables.proofs.Buffers.Places.{square-small}
-use Rattle.tables.proofs.Elimination.Bits.{one-shl}
-use Rattle.tables.proofs.Elimination.Loading.{load-none, load-even, load-odd}
+use Rattle.tables.proofs.Reduction.Bits.{one-shl}
+use Rattle.tables.proofs.Reduction.Loading.{load-none, load-even, load-odd}
 use Rattle.tables.proofs.parity.column.Statement.{statement}
 use Rattle.tables.proofs.parity.column.Tie as tie
 

@@ -1,6 +1,6 @@
 use native.Mathlib.Omega.{arith}
 use Rattle.numbers.proofs.Machine.{rd-is}
-use Rattle.tables.proofs.Elimination.Bits.{odd-test, half-fits}
+use Rattle.tables.proofs.Reduction.Bits.{odd-test, half-fits}
 use Rattle.tables.proofs.parity.odd.Statement.{statement}
 use Rattle.tables.proofs.parity.odd.Tie as tie
 

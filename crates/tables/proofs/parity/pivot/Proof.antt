@@ -5,8 +5,8 @@ use lib.IntN.{pos}
 use Rattle.numbers.proofs.Remainders.Congruence.{cong-of-eq}
 use Rattle.tables.specs.Elimination.{None}
 use Rattle.tables.specs.Parity.{bits}
-use Rattle.tables.proofs.Elimination.Stages.{none-more}
-use Rattle.tables.proofs.Elimination.Bits.{bit-one}
+use Rattle.tables.proofs.Reduction.Stages.{none-more}
+use Rattle.tables.proofs.Reduction.Bits.{bit-one}
 use Rattle.tables.proofs.parity.pivot.Statement.{statement}
 use Rattle.tables.proofs.parity.pivot.Tie as tie
 

@@ -1,12 +1,12 @@
 -- Where the two ways meet, `ready` says that word r has bit r and that the work done so far is kept.
-use mathlib.Core.Path.{sym, _∙_, subst₂}
+use mathlib.Core.Path.{sym, _∙_, subst}
 use mathlib.Core.List.{List}
 use mathlib.Core.Logic.{⊎-elim}
 use Prim.Native.Nat.{ℕ}
 use native.Mathlib.Omega.{arith}
 use borrow.Author.Needs.{needs}
 use Rattle.numbers.proofs.Answers.Says.{say-yes, say-no}
-use Rattle.tables.proofs.Elimination.Words.{Ready, ready-here, ready-join}
+use Rattle.tables.proofs.Reduction.Words.{Ready, ready-here, ready-join}
 use Rattle.tables.proofs.parity.settle.Statement.{statement}
 use Rattle.tables.proofs.parity.settle.Tie as tie
 
@@ -19,27 +19,24 @@ returns c = (c .before .before .before .pre .1, say-no (λ j l h. c .before .piv
 join-requires : tie.Need-join-requires
 join-requires c κs = search needs
 
-join-requires-2 : tie.Need-join-requires-2
-join-requires-2 c κs = search needs
+abbrev Goal : tie.Joined2 → List ℕ → Type 0
+Goal c x = let g = c .before .before .before .before .args in Ready (g .n) (g .r) (g .p .now) x
 
-abbrev Goal : tie.Joined2 → List ℕ → List ℕ → Type 0
-Goal c x y = let g = c .before .before .before .before .args in Ready (g .n) (g .r) (g .c .now) (g .p .now) x y
-
-ready : (c : tie.Joined2) → Goal c (c .if2 .c) (c .if2 .p)
+ready : (c : tie.Joined2) → Goal c (c .if2 .p)
 ready c =
     let z = c .before .before .before .before .pre in
     let v = c .before .before .pivot .ensures in
     ⊎-elim
-    (λ w. subst₂ (Goal c) (sym (w .5 ∙ w .2 .ensures)) (sym (w .6 ∙ w .4 .ensures)) (ready-join (z .1) v (z .0) (c .before .if1 .left) (w .0 .taken)))
-    (λ w. subst₂ (Goal c) (sym (w .1)) (sym (w .2)) (ready-here (z .1) v (z .0) (w .0 .left)))
+    (λ w. subst (Goal c) (sym (w .3 ∙ w .2 .ensures)) (ready-join (z .1) v (z .0) (c .before .if1 .left) (w .0 .taken)))
+    (λ w. subst (Goal c) (sym (w .1)) (ready-here (z .1) v (z .0) (w .0 .left)))
     (c .if2 .came)
 
 clear-requires : tie.Need-clear-requires
-clear-requires c κs = ((omega arith, ready (c .before .before) .sized), ready (c .before .before) .one)
+clear-requires c κs = ((omega arith, ready (c .before) .sized), ready (c .before) .one)
 
 returns-2 : tie.Need-returns-2
 returns-2 c =
-    let q = c .clear .ensures in (q .0, say-yes (record { on = λ A g. q .1 .on A (ready (c .before .before .before) .goes A g) }))
+    let q = c .clear .ensures in (q .0, say-yes (record { on = λ A g. q .1 .on A (ready (c .before .before) .goes A g) }))
 
 pub settle-spec : {M : Type 1} → statement M
-settle-spec = tie.close (tie.spec pivot-requires returns join-requires join-requires-2 clear-requires returns-2)
+settle-spec = tie.close (tie.spec pivot-requires returns join-requires clear-requires returns-2)

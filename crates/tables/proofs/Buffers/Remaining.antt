@@ -1,0 +1,79 @@
+-- The remainder of a product by 2^e, kernel by kernel: residues modulo 2^32 determine it, for 2^e divides 2^32.
+use mathlib.Core.Path.{_≡_, sym, ap, _∙_, subst}
+use mathlib.Core.List.{List}
+use Prim.Native.Nat.{ℕ, _+_, _*_, _^_, _≤_}
+use native.Mathlib.Nat.{zero-add}
+use native.Mathlib.Omega.{arith}
+use lib.Arith.{digits-lt}
+use lib.IntN.{ℤ, pos, natAbs}
+use lib.ListN.{length, getD, replicate, length-replicate}
+use lib.Pow.{pow-pos}
+use Rattle.numbers.specs.Remainder.{residue, rem}
+use Rattle.numbers.proofs.Remainders.Congruence.{Cong, cong-of-eq, cong-trans, cong-down}
+use Rattle.numbers.proofs.Remainders.Division.{residue-below, residue-cong}
+use Rattle.numbers.proofs.Remainders.Remainder.{rem-same}
+use Rattle.numbers.proofs.Remainders.Powers.{power-divides}
+use Rattle.tables.specs.Tables.{Matrix, _·⟨_⟩_, CongM, block}
+use Rattle.tables.specs.Buffer.{Low, Has, Remain, Balance, Put, Wrote}
+use Rattle.tables.specs.Residues.{residues, product32, Takes, Products}
+use Rattle.tables.proofs.Algebra.Matrix.{congM-·}
+use Rattle.tables.proofs.Buffers.Places.{square-small}
+use Rattle.tables.proofs.Buffers.Kernels.{low-flat}
+
+abbrev zeros : List ℕ
+zeros = replicate 1024 0
+
+-- x holds the residues of block b
+abbrev Taken : ℕ → List ℤ → ℕ → List ℕ → Type 0
+Taken n L b x = Wrote 0 (λ k. residue (2 ^ 32) (getD L (b * (n * n) + k) (pos 0))) 0 (n * n) zeros x
+
+taken-cong : {n : ℕ} (L : List ℤ) (b : ℕ) {x : List ℕ} → Taken n L b x → CongM n (pos (2 ^ 32)) (residues n x) (block n L b)
+taken-cong {n} L b {x} u i j h k =
+    cong-trans (cong-of-eq (pos (2 ^ 32)) (ap pos (sym (ap (λ (m : ℕ). getD x m 0) (zero-add (i * n + j))) ∙ u .inside (i * n + j) (digits-lt h k))))
+    (residue-cong (2 ^ 32) (omega arith) (block n L b i j))
+
+module _ {n e : ℕ} {L : List ℤ} {p q o : ℕ} (r : Remain n e L p q o) where
+  takes : (b : ℕ) → Has n L b → Low n (2 ^ 62) (block n L b) → Takes (n * n) L (b * (n * n)) zeros
+  takes b here low = record {
+    source = here;
+    target = rw length-replicate (square-small (r .order .upto));
+    low = low-flat L b (r .order) low;
+  }
+
+  pub remain-1 : Takes (n * n) L (p * (n * n)) zeros
+  remain-1 = takes p (r .left) (r .low-left)
+
+  pub remain-2 : Takes (n * n) L (q * (n * n)) zeros
+  remain-2 = takes q (r .right) (r .low-right)
+
+  module _ {x y : List ℕ} (u : Taken n L p x) (v : Taken n L q y) where
+    pub remain-3 : Products n x y L o
+    remain-3 = record {
+      order = r .order;
+      left = rw (u .long ∙ length-replicate {A = ℕ} 1024 0) (square-small (r .order .upto));
+      right = rw (v .long ∙ length-replicate {A = ℕ} 1024 0) (square-small (r .order .upto));
+      target = r .target;
+    }
+
+    module _ {K : List ℤ} (w : Put n (product32 n x y) o L K) where
+      pub remain-4 : Balance n e K o
+      remain-4 = record {
+        order = r .order;
+        from = r .from;
+        upto = r .upto;
+        target = omega (arith, r .target, w .long);
+        room = record { low = λ i j h k. rw (w .there i j h k) (omega (arith, residue-below (2 ^ 32) (omega arith) ((residues n x ·⟨ n ⟩ residues n y) i j))) };
+      }
+
+      pub remain-done : {M : List ℤ} → Put n (λ i j. rem (2 ^ e) (block n K o i j)) o K M → Put n (λ i j. rem (2 ^ e) ((block n L p ·⟨ n ⟩ block n L q) i j)) o L M
+      remain-done t = record {
+        long = t .long ∙ w .long;
+        there = λ i j h k. t .there i j h k ∙ rem-same (2 ^ e) (pow-pos e) (cong-down (same i j h k) (power-divides (r .upto)));
+        rest = λ b f i j h k. t .rest b f i j h k ∙ w .rest b f i j h k;
+      }
+        where
+          same : CongM n (pos (2 ^ 32)) (block n K o) (block n L p ·⟨ n ⟩ block n L q)
+          same i j h k =
+              cong-trans (cong-of-eq (pos (2 ^ 32)) (w .there i j h k))
+              (cong-trans (residue-cong (2 ^ 32) (omega arith) ((residues n x ·⟨ n ⟩ residues n y) i j))
+              (congM-· n (pos (2 ^ 32)) (taken-cong L p u) (taken-cong L q v) i j h k))

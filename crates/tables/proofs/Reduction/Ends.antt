@@ -1,0 +1,102 @@
+-- The start and the end of the elimination on residues: ones on a diagonal, residues of a table, and the solution in a block.
+use mathlib.Core.Path.{_≡_, refl, sym, ap, _∙_}
+use mathlib.Core.Logic.{_≢_}
+use mathlib.Core.List.{List}
+use Prim.Native.Nat.{ℕ, zero, suc, _+_, _*_, _/_, _%_, _^_, _≤_, _<_}
+use native.Mathlib.Nat.{zero-add, div-add-mod'}
+use native.Mathlib.Decide.{ℕ-discrete}
+use native.Mathlib.Omega.{arith}
+use lib.Arith.{digits-lt, digits-div, digits-mod}
+use lib.IntN.{ℤ, pos}
+use lib.ListN.{length, getD, set, length-set, replicate, length-replicate}
+use lib.Seq.{getD-set-same, getD-set-other}
+use Rattle.numbers.specs.Remainder.{residue}
+use Rattle.numbers.proofs.Algebra.Sum.{δ, δ-same, δ-other, δ-comm}
+use Rattle.numbers.proofs.Remainders.Congruence.{cong-of-eq, cong-trans}
+use Rattle.numbers.proofs.Remainders.Division.{residue-cong}
+use Rattle.tables.specs.Tables.{Matrix, _·⟨_⟩_, _ᵀ, CongM, entries}
+use Rattle.tables.specs.Buffer.{Low, Put, Wrote}
+use Rattle.tables.specs.Inverting.{Inverted, cells, Spans, Zeros}
+use Rattle.tables.proofs.Algebra.Matrix.{congM-eq, congM-refl, congM-trans, congM-·, ≈-sym}
+use Rattle.tables.proofs.Buffers.Places.{flat, square-small}
+use Rattle.tables.proofs.Buffers.Kernels.{low-≈}
+use Rattle.tables.proofs.Reduction.Units.{X}
+
+-- ---- ones on the diagonal
+
+pub zeros : (m : ℕ) → Zeros (replicate m 0)
+zeros zero k = refl
+zeros (suc m) zero = refl
+zeros (suc m) (suc k) = zeros m k
+
+pub fresh : {n : ℕ} → n ≤ 32 → Spans n (replicate 1024 0) (replicate 1024 0)
+fresh {n} h = record { order = h; long-c = room; long-p = room }
+  where
+    size : length {A = ℕ} (replicate 1024 0) ≡ 1024
+    size = length-replicate {A = ℕ} 1024 0
+
+    room : n * n ≤ length {A = ℕ} (replicate 1024 0)
+    room = omega (arith, square-small h, size)
+
+-- the first k rows are those of I, and the others are 0
+pub record Diagonal (n k : ℕ) (old t : List ℕ) : Type 0 where
+  pub long : length t ≡ length old
+  pub done : (i j : ℕ) → i < k → j < n → cells n t i j ≡ δ i j
+  pub left : (i j : ℕ) → k ≤ i → j < n → getD t (i * n + j) 0 ≡ 0
+
+pub diagonal-none : {n : ℕ} {t : List ℕ} → Zeros t → Diagonal n 0 t t
+diagonal-none {n} z = record { long = refl; done = λ i j h. absurd (omega arith); left = λ i j h k. z (i * n + j) }
+
+-- one place of the diagonal more
+pub diagonal-more : {n k : ℕ} {old t : List ℕ} → k < n → n * n ≤ length old → Diagonal n k old t → Diagonal n (k + 1) old (set t (k * n + k) 1)
+diagonal-more {n} {k} {old} {t} h l q = record {
+  long = length-set t (k * n + k) 1 ∙ q .long;
+  done = λ i j hi hj. row i j hi hj (ℕ-discrete i k) (ℕ-discrete j k);
+  left = λ i j hi hj. other i j (λ e. omega (arith, same-row i j hj e)) ∙ q .left i j (omega arith) hj;
+}
+  where
+    same-row : (i j : ℕ) → j < n → i * n + j ≡ k * n + k → i ≡ k
+    same-row i j hj e = sym (digits-div i hj) ∙ ap (λ (m : ℕ). m / n) e ∙ digits-div k h
+
+    same-column : (i j : ℕ) → j < n → i * n + j ≡ k * n + k → j ≡ k
+    same-column i j hj e = sym (digits-mod i hj) ∙ ap (λ (m : ℕ). m % n) e ∙ digits-mod k h
+
+    other : (i j : ℕ) → i * n + j ≢ k * n + k → getD (set t (k * n + k) 1) (i * n + j) 0 ≡ getD t (i * n + j) 0
+    other i j e = getD-set-other t (k * n + k) (i * n + j) 1 0 e
+
+    fits : k * n + k < length t
+    fits = omega (arith, digits-lt h h, q .long)
+
+    row : (i j : ℕ) → i < k + 1 → j < n → Dec (i ≡ k) → Dec (j ≡ k) → cells n (set t (k * n + k) 1) i j ≡ δ i j
+    row i j hi hj (no e) f = ap pos (other i j (λ p. e (same-row i j hj p))) ∙ q .done i j (omega arith) hj
+    row i j hi hj (yes e) (no f) =
+        ap pos (other i j (λ p. f (same-column i j hj p)) ∙ q .left i j (omega arith) hj) ∙ sym (δ-other (λ p. f (sym p ∙ e)))
+    row i j hi hj (yes e) (yes f) = rw (e, f) (ap pos (getD-set-same t (k * n + k) 1 0 fits) ∙ sym (δ-same k))
+
+pub diagonal-all : {n k : ℕ} {old t : List ℕ} → k ≡ n → Diagonal n k old t → CongM n X (cells n t ᵀ) δ
+diagonal-all e q i j hi hj = cong-of-eq X (q .done j i (omega arith) hi ∙ δ-comm j i)
+
+-- ---- the residues of a table
+
+pub loaded : {n : ℕ} (a : List ℤ) {p p′ : List ℕ} → Wrote 0 (λ t. residue (2 ^ 32) (getD a t (pos 0))) 0 (n * n) p p′ → CongM n X (cells n p′ ᵀ) (entries n a ᵀ)
+loaded {n} a {p′ = p′} w i j hi hj =
+    let t : ℕ = j * n + i in
+    cong-trans (cong-of-eq X (ap pos (ap (λ (k : ℕ). getD p′ k 0) (sym (zero-add t)) ∙ w .inside t (digits-lt hj hi))))
+    (residue-cong (2 ^ 32) (omega arith) (getD a t (pos 0)))
+
+-- ---- the solution
+
+pub flat-cells : (n : ℕ) (c : List ℕ) (t : ℕ) → flat n (cells n c) t ≡ pos (getD c t 0)
+flat-cells n c t = ap (λ (m : ℕ). pos (getD c m 0)) (div-add-mod' t n)
+
+pub low-cells : {n : ℕ} (c : List ℕ) → ((k : ℕ) → k < n * n → getD c k 0 < 2 ^ 32) → Low n (2 ^ 32) (cells n c)
+low-cells {n} c f = record { low = λ i j h k. let l = f (i * n + j) (digits-lt h k) in omega arith }
+
+pub inverted : {n o : ℕ} (A : Matrix) (c : List ℕ) {old new : List ℤ} → CongM n X (A ·⟨ n ⟩ cells n c) δ
+    → Put n (cells n c) o old new → Low n (2 ^ 32) (cells n c) → Inverted n A o old new
+inverted {n} A c e p l = record {
+  long = p .long;
+  right = congM-trans n X (congM-· n X (congM-refl n X A) (congM-eq n X (p .there))) e;
+  low = low-≈ (≈-sym (p .there)) l;
+  rest = p .rest;
+}

@@ -1,0 +1,47 @@
+use Rattle.tables.specs.Tables.{entries}
+use Rattle.tables.proofs.Reduction.Ends.{zeros, fresh, inverted}
+use native.Mathlib.Omega.{arith}
+use borrow.Author.Needs.{needs}
+use Rattle.tables.proofs.elimination.inverse.Statement.{statement}
+use Rattle.tables.proofs.elimination.inverse.Tie as tie
+
+slice-aggregate-solve : tie.Need-slice-aggregate-solve
+slice-aggregate-solve c = omega arith
+
+slice-aggregate-solve-2 : tie.Need-slice-aggregate-solve-2
+slice-aggregate-solve-2 c = omega arith
+
+solve-requires : tie.Need-solve-requires
+solve-requires c κs =
+    let s = c .before .before .pre in
+    ((s .0, s .1 .0), (fresh (s .0 .order .upto), zeros 1024))
+
+slice-aggregate-widen : tie.Need-slice-aggregate-widen
+slice-aggregate-widen c = omega arith
+
+widen-requires : tie.Need-widen-requires
+widen-requires c κs =
+    let s = c .before .before .before .before .before .before .before .pre in
+    (s .0 .order .upto, (omega (arith, fresh (s .0 .order .upto) .long-c, c .before .before .before .before .solve .ensures .0), s .1 .1))
+
+same-length : tie.Need-same-length
+same-length c = search needs
+
+returns : tie.Need-returns
+returns c =
+    let g = c .before .before .before .before .before .before .before .before .before .args in
+    let q = c .before .before .before .before .before .before .solve in
+    let w = c .before .widen .ensures in
+    inverted (entries (g .n) (g .a .now)) (q .last .1 .1 .0) (q .ensures .1) (w .0) (w .1)
+
+pub inverse-spec : {M : Type 1} → statement M
+inverse-spec =
+    tie.close
+    (tie.spec
+    slice-aggregate-solve
+    slice-aggregate-solve-2
+    solve-requires
+    slice-aggregate-widen
+    widen-requires
+    same-length
+    returns)

@@ -1,0 +1,13 @@
+use Rattle.tables.proofs.Reduction.Units.{fold-negative}
+use borrow.Author.Needs.{needs}
+use Rattle.tables.proofs.elimination.negative.Statement.{statement}
+use Rattle.tables.proofs.elimination.negative.Tie as tie
+
+fold-requires : tie.Need-fold-requires
+fold-requires c κs = search needs
+
+returns : tie.Need-returns
+returns c = rw (c .fold .ensures) (fold-negative (c .before .args .v))
+
+pub negative-spec : {M : Type 1} → statement M
+negative-spec = tie.close (tie.spec fold-requires returns)

@@ -1,0 +1,30 @@
+use borrow.Author.Needs.{needs}
+use Rattle.tables.proofs.elimination.settle.Statement.{statement}
+use Rattle.tables.proofs.elimination.settle.Tie as tie
+
+lead-requires : tie.Need-lead-requires
+lead-requires c κs = search needs
+
+scale-requires : tie.Need-scale-requires
+scale-requires c κs = search needs
+
+clear-requires : tie.Need-clear-requires
+clear-requires c κs = search needs
+
+same-length : tie.Need-same-length
+same-length c = search needs
+
+same-length-2 : tie.Need-same-length-2
+same-length-2 c = search needs
+
+returns : tie.Need-returns
+returns c =
+    let a = c .before .before .before .before .before .before .before .before .before .before .before .before .before .before .before .before .before .before .lead .ensures in
+    let b = c .before .before .before .before .before .before .before .before .before .before .before .scale .ensures in
+    let d = c .before .before .before .before .clear .ensures in
+    (d .0, record { on = λ A g. d .1 .on A (b .keeps .on A (a .keeps .on A g)) })
+
+pub settle-spec : {M : Type 1} → statement M
+settle-spec =
+    tie.close
+    (tie.spec lead-requires scale-requires clear-requires same-length same-length-2 returns)

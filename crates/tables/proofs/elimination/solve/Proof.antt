@@ -1,0 +1,95 @@
+use lib.IntN.{pos}
+use lib.ListN.{length}
+use Rattle.tables.specs.Tables.{_ᵀ, entries}
+use Rattle.tables.specs.Elimination.{Going}
+use Rattle.tables.specs.Inverting.{cells, Spans}
+use Rattle.tables.proofs.Inverses.Turned.{inverse-turned, has-turned}
+use Rattle.tables.proofs.Reduction.Stages.{going-first, found, stuck}
+use Rattle.tables.proofs.Reduction.Ends.{loaded}
+use native.Mathlib.Omega.{arith}
+use Prim.Native.Nat.{_-_, _^_, _≤_}
+use mathlib.Core.Path.{_≡_, refl, _∙_}
+use Rattle.tables.proofs.elimination.solve.Statement.{statement}
+use Rattle.tables.proofs.elimination.solve.Tie as tie
+
+abbrev Inv-loop : tie.InvT-loop
+Inv-loop n a c₀ p₀ r₀ c p r =
+    (r ≤ n) × ((length c ≡ length c₀) × ((length p ≡ length p₀) × (Spans n c p × Going n (2 ^ 32) r (entries n a ᵀ) (cells n c ᵀ) (cells n p ᵀ))))
+
+abbrev μ-loop : tie.MeasureT-loop
+μ-loop n a c₀ p₀ r₀ c p r = n - r
+
+ones-requires : tie.Need-ones-requires Inv-loop μ-loop
+ones-requires c κs = let s = c .before .before .before .pre in (s .1 .0 .order, (s .1 .0 .long-c, s .1 .1))
+
+load-requires : tie.Need-load-requires Inv-loop μ-loop
+load-requires c κs = let s = c .before .before .before .before .before .before .before .pre in (s .0 .0, s .1 .0 .long-p)
+
+loop-holds : tie.Need-loop-holds Inv-loop μ-loop
+loop-holds c =
+    let s = c .before .before .before .before .before .before .before .before .before .before in
+    let z = s .pre .1 .0 in
+    let e = c .before .before .before .before .before .before .ones .ensures in
+    let w = c .before .before .load .ensures in (
+      omega arith,
+      (
+        refl,
+        (
+          refl,
+          (
+            record { order = z .order; long-c = omega (arith, e .0, z .long-c); long-p = omega (arith, w .long, z .long-p) },
+            going-first (e .1) (loaded (s .args .a .now) w),
+          ),
+        ),
+      ),
+    )
+
+settle-requires : tie.Need-settle-requires Inv-loop μ-loop
+settle-requires c κs =
+    let s = c .before .before .before .before .before .before .before .before .before .before .before .before .before .before in
+    let q = c .before .before .before .loop .inv .1 .1 .1 in
+    let n = s .args .n in
+    let A = entries n (s .args .a .now) in
+    ((omega arith, q .0), λ none. stuck 2 (record { quot = pos (2 ^ 31); eqn = refl }) (omega arith) (omega arith) (q .1) none (has-turned 2 n (omega arith) A (s .pre .0 .1)))
+
+add-r : tie.Need-add-r Inv-loop μ-loop
+add-r c = omega arith
+
+loop-less : tie.Need-loop-less Inv-loop μ-loop
+loop-less c = omega arith
+
+loop-again : tie.Need-loop-again Inv-loop μ-loop
+loop-again c =
+    let v = c .before .before .before .before .before .before .before .before .loop .inv .1 in
+    let e = c .before .before .before .before .settle .ensures in
+    (omega arith, (omega (arith, v .0, c .before .before .before .c2 .given), (omega (arith, v .1 .0, c .before .p2 .given), (e .0, e .1 .on _ (v .1 .1 .1)))))
+
+same-length : tie.Need-same-length Inv-loop μ-loop
+same-length c = c .before .loop .inv .1 .0 ∙ c .before .before .before .before .before .before .before .before .ones .ensures .0
+
+same-length-2 : tie.Need-same-length-2 Inv-loop μ-loop
+same-length-2 c = c .before .loop .inv .1 .1 .0 ∙ c .before .before .before .before .load .ensures .long
+
+returns : tie.Need-returns Inv-loop μ-loop
+returns c =
+    let s = c .before .before .before .before .before .before .before .before .before .before .before .before in
+    let n = s .args .n in
+    let l = c .before .loop in
+    (l .inv .1 .0 ∙ c .before .before .before .before .before .before .before .before .ones .ensures .0, inverse-turned (2 ^ 32) n (omega arith) (entries n (s .args .a .now) ᵀ) (cells n (l .c) ᵀ) (found (omega arith) (l .inv .1 .1 .1 .1)))
+
+pub solve-spec : {M : Type 1} → statement M
+solve-spec =
+    tie.close
+    (tie.spec
+    Inv-loop
+    μ-loop
+    ones-requires
+    load-requires
+    loop-holds
+    settle-requires
+    add-r
+    loop-less
+    loop-again
+    same-length
+    same-length-2
+    returns)

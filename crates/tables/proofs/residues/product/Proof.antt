@@ -1,0 +1,53 @@
+use Rattle.tables.specs.Residues.{product32}
+use Rattle.tables.proofs.Buffers.Places.{Rows, rows-none, rows-more, rows-put}
+use native.Mathlib.Omega.{arith}
+use Prim.Native.Nat.{ℕ, _+_, _*_, _-_, _≤_, _<_}
+use mathlib.Core.Path.{_≡_, refl, sym, ap, _∙_}
+use Rattle.tables.proofs.residues.product.Statement.{statement}
+use Rattle.tables.proofs.residues.product.Tie as tie
+
+abbrev Inv-loop : tie.InvT-loop
+Inv-loop n x y buf₀ o i₀ buf i = Rows n (product32 n x y) o i buf₀ buf
+
+abbrev μ-loop : tie.MeasureT-loop
+μ-loop n x y buf₀ o i₀ buf i = n - i
+
+loop-holds : tie.Need-loop-holds Inv-loop μ-loop
+loop-holds c = rows-none _
+
+product-row-requires : tie.Need-product-row-requires Inv-loop μ-loop
+product-row-requires c κs =
+    let l = c .before .before in
+    let r = l .before .before .before .pre in
+    (record { order = r .order; left = r .left; right = r .right; target = omega (arith, r .target, l .loop .inv .wrote .long) }, c .before .loop-test .taken)
+
+add-i : tie.Need-add-i Inv-loop μ-loop
+add-i c = omega arith
+
+loop-less : tie.Need-loop-less Inv-loop μ-loop
+loop-less c = omega arith
+
+loop-again : tie.Need-loop-again Inv-loop μ-loop
+loop-again c =
+    let l = c .before .before .before .before in
+    rows-more (c .before .before .before .loop-test .taken) (l .loop .inv) (c .before .product-row .ensures) (λ j k. refl)
+
+same-length : tie.Need-same-length Inv-loop μ-loop
+same-length c = c .before .loop .inv .wrote .long
+
+returns : tie.Need-returns Inv-loop μ-loop
+returns c = rows-put (omega arith) (c .before .loop .inv)
+
+pub product-spec : {M : Type 1} → statement M
+product-spec =
+    tie.close
+    (tie.spec
+    Inv-loop
+    μ-loop
+    loop-holds
+    product-row-requires
+    add-i
+    loop-less
+    loop-again
+    same-length
+    returns)

@@ -1,0 +1,76 @@
+use Rattle.tables.specs.Buffer.{Wrote}
+use Rattle.tables.proofs.Buffers.Wrote.{wrote-none, wrote-more}
+use lib.IntN.{pos}
+use lib.ListN.{getD}
+use borrow.Author.Needs.{needs}
+use Rattle.numbers.proofs.Machine.{rd-got}
+use native.Mathlib.Omega.{arith}
+use Prim.Native.Nat.{ℕ, _+_, _*_, _-_, _≤_, _<_}
+use mathlib.Core.Path.{_≡_, refl, sym, ap, _∙_}
+use Rattle.tables.proofs.residues.widen.Statement.{statement}
+use Rattle.tables.proofs.residues.widen.Tie as tie
+
+abbrev Inv-loop : tie.InvT-loop
+Inv-loop n z buf₀ o j₀ buf j = (j ≤ n) × Wrote (pos 0) (λ (j : ℕ). pos (getD z j 0)) o j buf₀ buf
+
+abbrev μ-loop : tie.MeasureT-loop
+μ-loop n z buf₀ o j₀ buf j = n - j
+
+loop-holds : tie.Need-loop-holds Inv-loop μ-loop
+loop-holds c = (omega arith, wrote-none _ _ _)
+
+mul-signed : tie.Need-mul-signed Inv-loop μ-loop
+mul-signed c = omega arith
+
+shared-slice-read-signed : tie.Need-shared-slice-read-signed Inv-loop μ-loop
+shared-slice-read-signed c = omega arith
+
+signed-requires : tie.Need-signed-requires Inv-loop μ-loop
+signed-requires c κs = search needs
+
+add-t11 : tie.Need-add-t11 Inv-loop μ-loop
+add-t11 c = omega arith
+
+mul-t12 : tie.Need-mul-t12 Inv-loop μ-loop
+mul-t12 c = omega arith
+
+slice-set-from-buf : tie.Need-slice-set-from-buf Inv-loop μ-loop
+slice-set-from-buf c = omega arith
+
+add-j : tie.Need-add-j Inv-loop μ-loop
+add-j c = omega arith
+
+loop-less : tie.Need-loop-less Inv-loop μ-loop
+loop-less c = omega arith
+
+loop-again : tie.Need-loop-again Inv-loop μ-loop
+loop-again c =
+    let l = c .before .before .before in
+    (omega arith, wrote-more _ _ _ _ _ _ (omega arith) (rd-got (c .signed .result) (c .signed .ok) (c .signed .ensures)) (l .loop .inv .1))
+
+same-length : tie.Need-same-length Inv-loop μ-loop
+same-length c = c .before .loop .inv .1 .long
+
+returns : tie.Need-returns Inv-loop μ-loop
+returns c =
+    let e : c .before .loop .j ≡ c .before .before .before .args .n = omega arith in
+    rw e at (c .before .loop .inv .1)
+
+pub widen-spec : {M : Type 1} → statement M
+widen-spec =
+    tie.close
+    (tie.spec
+    Inv-loop
+    μ-loop
+    loop-holds
+    mul-signed
+    shared-slice-read-signed
+    signed-requires
+    add-t11
+    mul-t12
+    slice-set-from-buf
+    add-j
+    loop-less
+    loop-again
+    same-length
+    returns)

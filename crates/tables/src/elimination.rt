@@ -1,0 +1,200 @@
+// The inverse modulo 2^32, by one elimination with odd pivots: the rows of the identity and of the table undergo the same operations, in residues,
+// until the table is the identity.
+ghost use mathlib.Core.Path.{_≡_};
+ghost use Prim.Native.Nat.{ℕ, _+_, _*_, _%_, _^_, _≤_, _<_};
+ghost use lib.IntN.{pos, negℤ, _-ℤ_, _*ℤ_};
+ghost use lib.ListN.{length, getD};
+ghost use Rattle.numbers.specs.Numbers.{Cong, δ};
+ghost use Rattle.numbers.specs.Remainder.{residue};
+ghost use Rattle.tables.specs.Tables.{_·⟨_⟩_, _ᵀ, CongM, entries, HasInverseMod};
+ghost use Rattle.tables.specs.Buffer.{Low, Has, Put, Wrote};
+ghost use Rattle.tables.specs.Checks.{Lawful};
+ghost use Rattle.tables.specs.Elimination.{Advances, None, Pivot};
+ghost use Rattle.tables.specs.Inverting.{Inverted, cells, Spans, Zeros, RowStep, Ready, Sweep};
+
+// Block o becomes an inverse of the table a modulo 2^32, in residues from 0 to 2^32 - 1.
+pub fn inverse(n: usize, a: &[i64], buf: &mut [i64], o: usize)
+    requires { ⌜ (Lawful n (now a)) × ((HasInverseMod n 2 (entries n (now a))) × (Has n (now buf) o)) ⌝ }
+    ensures { λ _. ⌜ Inverted n (entries n (now (a .entry))) o (now (buf .entry)) (now (buf .exit)) ⌝ }
+{
+    let mut c = [0u32; 1024];
+    let mut p = [0u32; 1024];
+    solve(n, a, &mut c, &mut p);
+    widen(n, &c, buf, o);
+}
+
+// From zeros in c: an inverse of a modulo 2^32, with p for work.
+fn solve(n: usize, a: &[i64], c: &mut [u32], p: &mut [u32])
+    requires { ⌜ (Lawful n (now a)) × (HasInverseMod n 2 (entries n (now a))) ⌝ }
+    requires { ⌜ (Spans n (now c) (now p)) × (Zeros (now c)) ⌝ }
+    ensures { λ _. ⌜ (length (now (c .exit)) ≡ length (now (c .entry))) × CongM n (pos (2 ^ 32)) (entries n (now (a .entry)) ·⟨ n ⟩ cells n (now (c .exit))) δ ⌝ }
+{
+    ones(n, c);
+    load(n, a, p);
+    let mut r: usize = 0;
+    while r < n {
+        settle(n, r, c, p);
+        r += 1;
+    }
+}
+
+// Column r of p becomes that of the identity.
+fn settle(n: usize, r: usize, c: &mut [u32], p: &mut [u32])
+    requires { ⌜ (r < n) × Spans n (now c) (now p) ⌝ }
+    requires { ⌜ ¬ None 2 n r (cells n (now p) ᵀ) ⌝ }
+    ensures { λ _. ⌜ (Spans n (now (c .exit)) (now (p .exit))) × Advances n (2 ^ 32) r (cells n (now (c .entry)) ᵀ) (cells n (now (p .entry)) ᵀ) (cells n (now (c .exit)) ᵀ) (cells n (now (p .exit)) ᵀ) ⌝ }
+{
+    lead(n, r, c, p);
+    scale(n, r, c, p);
+    clear(n, r, c, p);
+}
+
+// Where the entry of p at row r and column r is even, row r gains the first row below it whose entry in that column is odd.
+fn lead(n: usize, r: usize, c: &mut [u32], p: &mut [u32])
+    requires { ⌜ (r < n) × Spans n (now c) (now p) ⌝ }
+    requires { ⌜ ¬ None 2 n r (cells n (now p) ᵀ) ⌝ }
+    ensures { λ _. ⌜ Ready (pos 2) n r (now (c .entry)) (now (p .entry)) (now (c .exit)) (now (p .exit)) ⌝ }
+{
+    let s = pivot(n, r, p);
+    if s != r {
+        gain(n, r, s, c);
+        gain(n, r, s, p);
+    }
+}
+
+// The first row from r on whose entry in column r is odd: there is one.
+fn pivot(n: usize, r: usize, p: &[u32]) -> usize
+    requires { ⌜ (n ≤ 32) × ((r < n) × (n * n ≤ length (now p))) ⌝ }
+    requires { ⌜ ¬ None 2 n r (cells n (now p) ᵀ) ⌝ }
+    ensures { λ s. ⌜ (s < n) × Pivot n r (cells n (now (p .entry)) ᵀ) s ⌝ }
+{
+    let mut s = r;
+    while p[s * n + r] % 2 == 0 {
+        s += 1;
+    }
+    s
+}
+
+// Row d gains row s.
+fn gain(n: usize, d: usize, s: usize, t: &mut [u32])
+    requires { ⌜ (n ≤ 32) × ((d < n) × ((s < n) × (n * n ≤ length (now t)))) ⌝ }
+    ensures { λ _. ⌜ RowStep n d s (pos 1) (pos 1) (now (t .entry)) (now (t .exit)) ⌝ }
+{
+    let mut row = [0u32; 32];
+    crate::residues::copy_row(n, t, s * n, &mut row);
+    crate::residues::fold_row(n, 1, &row, 0, t, d * n);
+}
+
+// Row r, whose entry in column r of p is odd, is multiplied so that this entry is 1.
+fn scale(n: usize, r: usize, c: &mut [u32], p: &mut [u32])
+    requires { ⌜ (r < n) × Spans n (now c) (now p) ⌝ }
+    requires { ⌜ Cong (pos 2) (cells n (now p) r r) (pos 1) ⌝ }
+    ensures { λ _. ⌜ Ready (pos (2 ^ 32)) n r (now (c .entry)) (now (p .entry)) (now (c .exit)) (now (p .exit)) ⌝ }
+{
+    let u = unit(p[r * n + r]);
+    crate::residues::scale_row(n, u, c, r * n);
+    crate::residues::scale_row(n, u, p, r * n);
+}
+
+// Row r, whose entry in column r of p is 1, clears that column in every other row.
+fn clear(n: usize, r: usize, c: &mut [u32], p: &mut [u32])
+    requires { ⌜ (r < n) × Spans n (now c) (now p) ⌝ }
+    requires { ⌜ Cong (pos (2 ^ 32)) (cells n (now p) r r) (pos 1) ⌝ }
+    ensures { λ _. ⌜ (Spans n (now (c .exit)) (now (p .exit))) × Advances n (2 ^ 32) r (cells n (now (c .entry)) ᵀ) (cells n (now (p .entry)) ᵀ) (cells n (now (c .exit)) ᵀ) (cells n (now (p .exit)) ᵀ) ⌝ }
+{
+    let mut v = [0u32; 32];
+    let mut w = [0u32; 32];
+    crate::residues::copy_row(n, c, r * n, &mut v);
+    crate::residues::copy_row(n, p, r * n, &mut w);
+    sweep(n, r, &v, &w, c, p);
+}
+
+// The same, with the rows r of c and p in v and w.
+fn sweep(n: usize, r: usize, v: &[u32], w: &[u32], c: &mut [u32], p: &mut [u32])
+    requires { ⌜ Sweep n r (now v) (now w) (now c) (now p) ⌝ }
+    ensures { λ _. ⌜ (Spans n (now (c .exit)) (now (p .exit))) × Advances n (2 ^ 32) r (cells n (now (c .entry)) ᵀ) (cells n (now (p .entry)) ᵀ) (cells n (now (c .exit)) ᵀ) (cells n (now (p .exit)) ᵀ) ⌝ }
+{
+    let mut d: usize = 0;
+    while d < n {
+        if d != r {
+            let f = negative(p[d * n + r]);
+            crate::residues::fold_row(n, f, v, 0, c, d * n);
+            crate::residues::fold_row(n, f, w, 0, p, d * n);
+        }
+        d += 1;
+    }
+}
+
+// Ones on the diagonal of a table of zeros.
+fn ones(n: usize, c: &mut [u32])
+    requires { ⌜ (n ≤ 32) × ((n * n ≤ length (now c)) × Zeros (now c)) ⌝ }
+    ensures { λ _. ⌜ (length (now (c .exit)) ≡ length (now (c .entry))) × CongM n (pos (2 ^ 32)) (cells n (now (c .exit)) ᵀ) δ ⌝ }
+{
+    let mut i: usize = 0;
+    while i < n {
+        c[i * n + i] = 1;
+        i += 1;
+    }
+}
+
+// The residues of a in p.
+fn load(n: usize, a: &[i64], p: &mut [u32])
+    requires { ⌜ (Lawful n (now a)) × (n * n ≤ length (now p)) ⌝ }
+    ensures { λ _. ⌜ Wrote 0 (λ (t : ℕ). residue (2 ^ 32) (getD (now (a .entry)) t (pos 0))) 0 (n * n) (now (p .entry)) (now (p .exit)) ⌝ }
+{
+    let m = n * n;
+    let mut t: usize = 0;
+    while t < m {
+        let v = numbers::residue(a[t]);
+        p[t] = v;
+        t += 1;
+    }
+}
+
+// Block o becomes the table of residues in c.
+fn widen(n: usize, c: &[u32], buf: &mut [i64], o: usize)
+    requires { ⌜ (n ≤ 32) × ((n * n ≤ length (now c)) × (Has n (now buf) o)) ⌝ }
+    ensures { λ _. ⌜ (Put n (cells n (now (c .entry))) o (now (buf .entry)) (now (buf .exit))) × Low n (2 ^ 32) (cells n (now (c .entry))) ⌝ }
+{
+    let m = n * n;
+    let oa = o * m;
+    let mut t: usize = 0;
+    while t < m {
+        let v = wide(c[t]);
+        buf[oa + t] = v;
+        t += 1;
+    }
+}
+
+// A residue as a signed number.
+fn wide(x: u32) -> i64
+    ensures { λ r. ⌜ r ≡ pos x ⌝ }
+{
+    x as i64
+}
+
+// An inverse of an odd number modulo 2^32: each step doubles the number of bits that are right.
+fn unit(g: u32) -> u32
+    requires { ⌜ Cong (pos 2) (pos g) (pos 1) ⌝ }
+    ensures { λ u. ⌜ Cong (pos (2 ^ 32)) (pos u *ℤ pos g) (pos 1) ⌝ }
+{
+    let h1 = better(g, 1);
+    let h2 = better(g, h1);
+    let h3 = better(g, h2);
+    let h4 = better(g, h3);
+    better(g, h4)
+}
+
+// h (2 - g h)
+fn better(g: u32, h: u32) -> u32
+    ensures { λ r. ⌜ Cong (pos (2 ^ 32)) (pos r) (pos h *ℤ (pos 2 -ℤ pos g *ℤ pos h)) ⌝ }
+{
+    numbers::fold(0, h, numbers::fold(2, g, negative(h)))
+}
+
+// -v
+fn negative(v: u32) -> u32
+    ensures { λ r. ⌜ Cong (pos (2 ^ 32)) (pos r) (negℤ (pos v)) ⌝ }
+{
+    numbers::fold(0, 4294967295, v)
+}
