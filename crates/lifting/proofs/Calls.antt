@@ -1,7 +1,6 @@
 pub mod Sizes
 pub mod Stepping
-pub mod Starting
-pub mod Halving
+pub mod Columns
 pub mod Holding
 pub mod Ready
 pub mod Refusals

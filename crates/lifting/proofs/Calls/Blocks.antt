@@ -8,7 +8,7 @@ use lib.IntN.{ℤ}
 use lib.ListN.{length}
 use denote.Ref.{RefT, now}
 use Rattle.tables.specs.Views.{Stretch, Same}
-use Rattle.tables.proofs.Buffers.Places.{block-end, square-small}
+use Rattle.tables.proofs.Buffers.Places.{next-row, square-small}
 use Rattle.tables.proofs.Checking.Views.{stretch-unique, both?, iff?, order?}
 use Rattle.lifting.specs.Views.{HasBlock, BlockGives}
 
@@ -21,7 +21,7 @@ block-fits {n} {s} {size} {j} h =
     let i = h .inside in
     let a : j + 1 ≤ 2 * s + 2 = omega arith in
     let b = mul-le-mul-right (n * n) a in
-    omega (arith, block-end j (n * n), size-small (h .order .upto) (h .lifts), h .whole)
+    omega (arith, next-row j (n * n), size-small (h .order .upto) (h .lifts), h .whole)
 
 module _ {n s j : ℕ} {t r : RefT (List ℤ)} where
   pub block-there : HasBlock n s (length (now t)) j → Stretch t r (j * (n * n)) (n * n) → BlockGives n s t j r

@@ -9,18 +9,18 @@ use lib.Pow.{pow-mono}
 use lib.IntN.{ℤ, pos}
 use lib.ListN.{length}
 use Rattle.numbers.specs.Numbers.{Enough, IsNeed}
-use Rattle.tables.specs.Tables.{Matrix, _≈⟨_⟩_, block, entries, height}
-use Rattle.tables.specs.Buffer.{Has}
+use Rattle.tables.specs.Tables.{Matrix, _≈⟨_⟩_, block, entries, height, HasInverseMod}
+use Rattle.tables.specs.Buffer.{Low}
 use Rattle.tables.specs.Checks.{Lawful}
 use Rattle.tables.proofs.Buffers.Kernels.{low-≈}
 use Rattle.tables.proofs.Buffers.Places.{square-small}
 use Rattle.tables.proofs.Checking.Heights.{height-at, legal-height}
 use Rattle.tables.proofs.Algebra.Matrix.{≈-refl, ≈-sym, ≈-trans, ·-cong, congM-eq, congM-trans}
 use Rattle.lifting.specs.Lifting.{IsStart, IsResidue, first, later, Upto}
-use Rattle.lifting.specs.Steps.{Setting, Stage, Stepped, ToStart}
+use Rattle.lifting.specs.Steps.{Setting, Stage, Stepped, ToStart, ToBase}
 use Rattle.lifting.proofs.Expansions.Residues.{stands, upto-residue, residue-start}
 use Rattle.lifting.proofs.Expansions.Rules.{step-resp, start-right}
-use Rattle.lifting.proofs.Calls.Sizes.{low-balanced}
+use Rattle.lifting.proofs.Calls.Sizes.{low-more, low-balanced}
 
 -- ---- the exponent
 
@@ -43,8 +43,16 @@ setting law enough upto = record { lawful = law; from = omega (arith, enough .fr
 pub in-buffer : {n N : ℕ} (b : ℕ) → n ≤ 32 → b ≤ 3 → N ≡ 4096 → b * (n * n) + n * n ≤ N
 in-buffer {n} b h k e = omega (arith, square-small h, mul-le-mul-right (n * n) k)
 
-pub to-start : {n e : ℕ} {A L : List ℤ} → Lawful n A → Enough n (height A) e → e ≤ 32 → length L ≡ 4096 → ToStart n e A L
-to-start law enough upto long = record { setting = setting law enough upto; work = in-buffer 2 (law .order .upto) (omega arith) long }
+pub to-start : {n e : ℕ} {A L : List ℤ} → Lawful n A → Enough n (height A) e → e ≤ 32 → length L ≡ 4096 → HasInverseMod n 2 (entries n A) → ToStart n e A L
+to-start law enough upto long odd = record { setting = setting law enough upto; work = in-buffer 1 (law .order .upto) (omega arith) long; odd = odd }
+
+pub to-base : {n e : ℕ} {A L : List ℤ} → Stage n e A L → length L ≡ 4096 → ToBase n e A L
+to-base s long = record {
+  setting = s .setting;
+  work = in-buffer 1 (s .setting .lawful .order .upto) (omega arith) long;
+  right = s .right;
+  low = low-more (omega arith) (s .small);
+}
 
 -- R_t stands in block r, over B_0 in block 0
 pub record Holds (n e : ℕ) (A L : List ℤ) (t r : ℕ) : Type 0 where
@@ -58,21 +66,23 @@ holds-first {n} {e} {A} {L} p = record { base = block n L 0; there = ≈-refl n 
 pub holds-upto : {n e t : ℕ} {A L : List ℤ} → Upto n (2 ^ e) t (entries n A) L → Holds n e A L t (2 * t + 1)
 holds-upto {n} {e} {t} {A} {L} p = record { base = block n L 0; there = ≈-refl n (block n L 0); last = upto-residue p t (le-refl t) }
 
--- 3·n·h / 5 is at most 2^25
-pub holds-stage : {n e : ℕ} {A L : List ℤ} {t r : ℕ} → Lawful n A → Enough n (height A) e → e ≤ 32 → Has n L r → Holds n e A L t r → Stage n e A L r
-holds-stage {n} {e} {A} {L} {t} {r} law enough upto here p =
+pub holds-stage : {n e : ℕ} {A L : List ℤ} {t r : ℕ} → Lawful n A → Enough n (height A) e → e ≤ 32 → Holds n e A L t r → Stage n e A L
+holds-stage {n} {e} {A} law enough upto p =
     let (S, s) = residue-start (p .last) in
-    let q = stands n (height A) (2 ^ e) wide (enough .reaches) (entries n A) (λ i j a b. height-at A (i * n + j)) (p .last) in
     record {
       setting = setting law enough upto;
       right = congM-trans n (pos (2 ^ e)) (congM-eq n (pos (2 ^ e)) (·-cong n (≈-refl n (entries n A)) (p .there))) (start-right s);
       small = low-≈ (≈-sym (p .there)) (low-balanced upto (s .balanced));
-      here = here;
-      low = record {
-        low = λ i j a b.
-            let m : n * height A ≤ 32 * 2 ^ 20 = mul-le-mul {n₂ = 32} {m₂ = 2 ^ 20} (law .order .upto) (legal-height A (law .legal)) in
-            omega (arith, q .bounded .residue i j a b);
-      };
+    }
+
+-- 3·n·h / 5 is at most 2^25
+pub holds-low : {n e : ℕ} {A L : List ℤ} {t r : ℕ} → Lawful n A → Enough n (height A) e → Holds n e A L t r → Low n (2 ^ 25) (block n L r)
+holds-low {n} {e} {A} law enough p =
+    let q = stands n (height A) (2 ^ e) wide (enough .reaches) (entries n A) (λ i j a b. height-at A (i * n + j)) (p .last) in
+    record {
+      low = λ i j a b.
+          let m : n * height A ≤ 32 * 2 ^ 20 = mul-le-mul {n₂ = 32} {m₂ = 2 ^ 20} (law .order .upto) (legal-height A (law .legal)) in
+          omega (arith, q .bounded .residue i j a b);
     }
   where
     wide : 60 ≤ 2 ^ e
