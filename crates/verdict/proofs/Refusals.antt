@@ -1,5 +1,5 @@
 -- The numbers that verdict and inverse give back, in their order, with their two values.
-use mathlib.Core.Path.{_≡_, refl, sym, subst}
+use mathlib.Core.Path.{_≡_, refl, sym, ap, subst}
 use mathlib.Core.Logic.{_≢_, _⊎_, inl, inr, ⊎-elim}
 use mathlib.Core.List.{List, [], _∷_}
 use Prim.Native.Nat.{ℕ, _*_, _^_}
@@ -13,10 +13,11 @@ use Rattle.numbers.proofs.Answers.Refusals.{gives-lowest}
 use Rattle.numbers.specs.Numbers.{IsNeed, IsLifts}
 use Rattle.tables.specs.Tables.{entries, height, HasWholeInverse}
 use Rattle.tables.specs.Checks.{Lawful}
+use Rattle.lifting.specs.Steps.{Stage}
 use Rattle.tables.proofs.Inverses.TwoSided.{inverse-unique}
 use Rattle.tables.proofs.Checking.Views.{both?, order?}
 use Rattle.verdict.specs.Verdict.{IsNarrow, Narrow, TooWide, answer, outcomeOf, Told, after-0, after-7, after-8, Values, verdictRefusals, VerdictGives, inverseRefusals, InverseGives}
-use Rattle.verdict.specs.Parts.{NoneNarrow, Written}
+use Rattle.verdict.specs.Parts.{Kept, NoneNarrow, Written}
 use Rattle.verdict.specs.declared.Ruling.{Ruling}
 use Rattle.verdict.specs.declared.Ruling.the-variants.{Yes, No, Refused}
 use Rattle.verdict.specs.declared.Outcome.{Outcome}
@@ -48,6 +49,14 @@ zero-values f = record { told = λ t. absurd (f t); zeros = λ g. (refl, refl) }
 -- need(A) is not 0, so two zeros tell nothing
 pub zeros-untold : {n : ℕ} {A : List ℤ} {k : ℕ} → Values n A (answer k 0 0) → ¬ Told k
 zeros-untold v t = let h = v .told t .0 .holds .from in omega arith
+
+-- ---- what verdict's work leaves for inverse
+
+pub unkept : {n k e l : ℕ} {A M : List ℤ} → k ≢ 0 → Kept n A M (answer k e l)
+unkept f = record { stage = λ z. absurd (f z) }
+
+pub kept-yes : {n e l : ℕ} {A M : List ℤ} {r : Ruling} → Kept n A M (outcomeOf r) → r ≡ Yes e l → Stage n 32 A M
+kept-yes k q = k .stage (ap (λ r. outcomeOf r .number) q)
 
 -- ---- verdict
 

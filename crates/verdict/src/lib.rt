@@ -1,14 +1,16 @@
 // Verdict and inverse.
 ghost use mathlib.Core.Path.{_≡_};
-ghost use Prim.Native.Nat.{_+_, _*_, _<_};
+ghost use Prim.Native.Nat.{_+_, _*_, _^_, _<_};
 ghost use lib.ListN.{length};
-ghost use Rattle.tables.specs.Tables.{entries, block, height, HasWholeInverse};
+ghost use Rattle.tables.specs.Tables.{entries, block, HasWholeInverse};
 ghost use Rattle.numbers.specs.Limits.{IsOrder};
 ghost use Rattle.numbers.specs.Says.{Says, Tells};
 ghost use Rattle.tables.specs.Checks.{Lawful};
-ghost use Rattle.numbers.specs.Numbers.{IsNeed, IsLifts};
+ghost use Rattle.numbers.specs.Numbers.{IsLifts};
+ghost use Rattle.lifting.specs.Lifting.{IsStart};
+ghost use Rattle.lifting.specs.Steps.{Stage};
 ghost use Rattle.verdict.specs.Verdict.{Narrow, outcomeOf, VerdictGives, InverseGives};
-ghost use Rattle.verdict.specs.Parts.{NoneNarrow, Summed, Written, Wide};
+ghost use Rattle.verdict.specs.Parts.{Fails, Kept, NoneNarrow, Summed, Written, Wide};
 
 // The width: 2^37.
 const WIDTH: u64 = 137438953472;
@@ -50,21 +52,29 @@ pub fn outcome_of(v: Ruling) -> Outcome
     }
 }
 
-// Whether A has a whole inverse, by k lifts at e: B_0 in block 0 of the buffer, the residues in blocks 1 and 2 by turns, the digits in block 3.
-fn whole(n: usize, e: u32, k: u32, a: &[i64], buf: &mut [i64]) -> bool
+// Whether A has a whole inverse, by at most k lifts at the exponent 32, which is legal for every table: a residue that vanishes says yes at once.
+// B_0 is in block 0 of the buffer, and stays there; the residues are in blocks 1 and 2 by turns, the digits in block 3.
+fn whole(n: usize, k: u32, a: &[i64], buf: &mut [i64]) -> bool
     requires { ⌜ Lawful n (now a) ⌝ }
-    requires { ⌜ IsNeed n (height (now a)) e × IsLifts n k ⌝ }
+    requires { ⌜ IsLifts n k ⌝ }
     requires { ⌜ length (now buf) ≡ 4096 ⌝ }
-    ensures { λ r. ⌜ Tells (HasWholeInverse n (entries n (now (a .entry)))) r ⌝ }
+    ensures { λ r. ⌜ Says (HasWholeInverse n (entries n (now (a .entry))) × Stage n 32 (now (a .entry)) (now (buf .exit))) (¬ HasWholeInverse n (entries n (now (a .entry)))) r ⌝ }
 {
-    if !lifting::start(n, e, a, buf) {
+    if !tables::parity::has_inverse(n, a) {
+        return false;
+    }
+    lifting::start(n, 32, a, buf);
+    if fails(n, a, buf) {
         return false;
     }
     let mut r: usize = 1;
     let mut s: usize = 2;
     let mut t: u32 = 0;
     while t < k {
-        lifting::step(n, e, a, buf, r, 3, s);
+        if tables::blocks::vanishes(n, buf, r) {
+            return true;
+        }
+        lifting::step(n, 32, a, buf, r, 3, s);
         let q = r;
         r = s;
         s = q;
@@ -73,10 +83,33 @@ fn whole(n: usize, e: u32, k: u32, a: &[i64], buf: &mut [i64]) -> bool
     tables::blocks::vanishes(n, buf, r)
 }
 
-// The ruling, with a buffer for the work.
+// Whether the first column alone tells that A has no whole inverse, from B_0 and R_0 at the exponent 32 in blocks 0 and 1: after n digits, each the
+// work of two rows of products, its residue is not zero. Blocks 2 and 3 are for work.
+fn fails(n: usize, a: &[i64], buf: &mut [i64]) -> bool
+    requires { ⌜ Lawful n (now a) ⌝ }
+    requires { ⌜ length (now buf) ≡ 4096 ⌝ }
+    requires { ⌜ IsStart n (2 ^ 32) (entries n (now a)) (block n (now buf) 0) (block n (now buf) 1) ⌝ }
+    ensures { λ r. ⌜ Fails n (now (a .entry)) (now (buf .entry)) r (now (buf .exit)) ⌝ }
+{
+    tables::columns::copy(n, buf, 1, 2);
+    let mut t: usize = 1;
+    while t < n {
+        if tables::columns::vanishes(n, buf, 2) {
+            return false;
+        }
+        lifting::column_digit(n, 32, a, buf, 2, 3);
+        t += 1;
+    }
+    if tables::columns::vanishes(n, buf, 2) {
+        return false;
+    }
+    true
+}
+
+// The ruling, with a buffer for the work; after a yes B_0 at the exponent 32 is in block 0.
 fn decide(n: usize, a: &[i64], buf: &mut [i64]) -> Ruling
     requires { ⌜ length (now buf) ≡ 4096 ⌝ }
-    ensures { λ r. ⌜ VerdictGives n (now (a .entry)) (outcomeOf r) ⌝ }
+    ensures { λ r. ⌜ VerdictGives n (now (a .entry)) (outcomeOf r) × Kept n (now (a .entry)) (now (buf .exit)) (outcomeOf r) ⌝ }
 {
     if !tables::checks::is_order(n) {
         return Ruling::Refused(1);
@@ -89,7 +122,7 @@ fn decide(n: usize, a: &[i64], buf: &mut [i64]) -> Ruling
     }
     let e = numbers::need(n as u64, tables::checks::top(a));
     let k = numbers::lifts(n as u64);
-    if whole(n, e, k, a, buf) {
+    if whole(n, k, a, buf) {
         Ruling::Yes {
             exponent: e,
             lifts: k,
@@ -110,14 +143,15 @@ pub fn verdict(n: usize, table: &[i64]) -> Ruling
     decide(n, table, &mut buf)
 }
 
-// The whole inverse in block 0 of the buffer, by its two digits at e = 32, B_0 + 2^32·D; or false, where no whole inverse is narrow.
+// From B_0 at the exponent 32 in block 0: the whole inverse there, by its two digits B_0 + 2^32·D; or false, where no whole inverse is narrow.
 fn digits(n: usize, a: &[i64], buf: &mut [i64]) -> bool
-    requires { ⌜ Lawful n (now a) ⌝ }
+    requires { ⌜ Stage n 32 (now a) (now buf) ⌝ }
     requires { ⌜ length (now buf) ≡ 4096 ⌝ }
     ensures { λ r. ⌜ Says (Summed n (now (a .entry)) (now (buf .exit))) (NoneNarrow n (now (a .entry))) r ⌝ }
 {
-    if !lifting::start(n, 32, a, buf) {
-        return false;
+    lifting::base(n, 32, a, buf);
+    if tables::blocks::vanishes(n, buf, 1) {
+        return true;
     }
     lifting::digit(n, 32, a, buf, 1, 2);
     if !tables::blocks::vanishes(n, buf, 1) {
@@ -140,7 +174,7 @@ fn narrow(n: usize, buf: &[i64]) -> bool
 
 // The whole inverse into out, where it is narrow.
 fn invert(n: usize, a: &[i64], out: &mut [i64], buf: &mut [i64]) -> bool
-    requires { ⌜ Lawful n (now a) ⌝ }
+    requires { ⌜ Stage n 32 (now a) (now buf) ⌝ }
     requires { ⌜ length (now out) ≡ n * n ⌝ }
     requires { ⌜ length (now buf) ≡ 4096 ⌝ }
     ensures { λ done. ⌜ Says (Written n (now (a .entry)) (now (out .exit))) (Wide n (now (a .entry)) (now (out .entry)) (now (out .exit))) done ⌝ }

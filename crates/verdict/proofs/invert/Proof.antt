@@ -18,7 +18,7 @@ returns : tie.Need-returns
 returns c = say-no (record { kept = refl; wide = c .before .before .digits .ensures .no (not-true _ (c .if1 .taken)) })
 
 narrow-requires : tie.Need-narrow-requires
-narrow-requires c κs = (c .before .before .before .before .before .pre .0 .order, omega arith)
+narrow-requires c κs = (c .before .before .before .before .before .pre .0 .setting .lawful .order, omega arith)
 
 same-length-2 : tie.Need-same-length-2
 same-length-2 c = search needs
@@ -31,7 +31,7 @@ mul-copy : tie.Need-mul-copy
 mul-copy c = search needs
 
 copy-requires : tie.Need-copy-requires
-copy-requires c κs = (omega (arith, square-small (c .before .before .before .before .before .before .before .before .before .pre .0 .order .upto)), omega arith)
+copy-requires c κs = (omega (arith, square-small (c .before .before .before .before .before .before .before .before .before .pre .0 .setting .lawful .order .upto)), omega arith)
 
 same-length-3 : tie.Need-same-length-3
 same-length-3 c = search needs

@@ -1,42 +1,83 @@
-use mathlib.Core.Path.{refl, _≡_, sym, _∙_}
-use Rattle.verdict.proofs.Rule.{judged}
-use Rattle.lifting.proofs.Calls.Holding.{in-buffer, to-start, Holds, holds-first, holds-stage, holds-step, need-upto}
+use Rattle.verdict.proofs.Rule.{judged-yes, judged-last}
+use Rattle.lifting.proofs.Expansions.Rules.{start-resp}
+use Rattle.lifting.proofs.Calls.Holding.{in-buffer, to-start, enough-32, Holds, holds-first, holds-stage, holds-low, holds-step}
+use Rattle.tables.proofs.Algebra.Matrix.{≈-sym}
 use Rattle.tables.proofs.Inverses.Laws.{whole-mod}
-use Rattle.numbers.proofs.Answers.Says.{say-no}
+use Rattle.numbers.proofs.Answers.Says.{say-yes, say-no}
 use lib.ListN.{length}
+use borrow.Author.Needs.{needs}
 use borrow.Author.Tests.{not-true, not-false}
-use native.Mathlib.Omega.{arith}
 use native.Mathlib.Numerals.{add-one}
-use Prim.Native.Nat.{_≤_, _-_, _+_}
+use native.Mathlib.Omega.{arith}
+use Prim.Native.Nat.{ℕ, _+_, _*_, _-_, _≤_, _<_}
+use mathlib.Core.Path.{_≡_, refl, sym, ap, _∙_}
 use Rattle.verdict.proofs.whole.Statement.{statement}
 use Rattle.verdict.proofs.whole.Tie as tie
 
 abbrev Inv-loop : tie.InvT-loop
-Inv-loop n e k a buf₀ r₀ s₀ t₀ buf r s t = (t ≤ k) × ((length buf ≡ 4096) × (((r + s ≡ 3) × ((1 ≤ r) × (1 ≤ s))) × Holds n e a buf t r))
+Inv-loop n k a buf₀ r₀ s₀ t₀ buf r s t = (t ≤ k) × ((length buf ≡ 4096) × (((r + s ≡ 3) × ((1 ≤ r) × (1 ≤ s))) × Holds n 32 a buf t r))
 
 abbrev μ-loop : tie.MeasureT-loop
-μ-loop n e k a buf₀ r₀ s₀ t₀ buf r s t = k - t
+μ-loop n k a buf₀ r₀ s₀ t₀ buf r s t = k - t
 
-start-requires : tie.Need-start-requires Inv-loop μ-loop
-start-requires c κs = to-start (c .before .pre .0) (c .before .pre .1 .0 .0 .holds) (need-upto (c .before .pre .0) (c .before .pre .1 .0 .0)) (c .before .pre .1 .1)
-
-same-length : tie.Need-same-length Inv-loop μ-loop
-same-length c = c .before .before .start .ensures .long
+has-inverse-requires : tie.Need-has-inverse-requires Inv-loop μ-loop
+has-inverse-requires c κs = (c .pre .0 .order, c .pre .0 .size)
 
 returns : tie.Need-returns Inv-loop μ-loop
-returns c = say-no (λ w. c .before .before .start .ensures .no (not-true _ (c .if1 .taken)) (whole-mod w 2))
+returns c = say-no (λ w. c .before .has-inverse .ensures .no (not-true _ (c .if1 .taken)) (whole-mod w 2))
+
+start-requires : tie.Need-start-requires Inv-loop μ-loop
+start-requires c κs =
+    let p = c .before .before .before .pre in
+    to-start (p .0) (enough-32 (p .0)) (omega arith) (p .1 .1) (c .before .before .has-inverse .ensures .yes (not-false _ (c .before .if1 .left)))
+
+fails-requires : tie.Need-fails-requires Inv-loop μ-loop
+fails-requires c κs =
+    let b = c .before .before .start .ensures in
+    let p = c .before .before .before .before .before .before .pre in
+    (p .0, (b .long ∙ p .1 .1, b .start))
+
+same-length : tie.Need-same-length Inv-loop μ-loop
+same-length c = c .before .before .fails .ensures .long ∙ c .before .before .before .before .before .start .ensures .long
+
+returns-2 : tie.Need-returns-2 Inv-loop μ-loop
+returns-2 c = say-no (c .before .before .fails .ensures .none (c .if2 .taken))
 
 loop-holds : tie.Need-loop-holds Inv-loop μ-loop
-loop-holds c = (omega arith, (c .before .before .start .ensures .long ∙ c .before .before .before .before .pre .1 .1, ((refl, (omega arith, omega arith)), holds-first (c .before .before .start .ensures .yes (not-false _ (c .if1 .left))))))
+loop-holds c =
+    let b = c .before .before .before .before .before .start .ensures in
+    let f = c .before .before .fails .ensures in
+    (omega arith, (f .long ∙ b .long ∙ c .before .before .before .before .before .before .before .before .before .pre .1 .1, ((refl, (omega arith, omega arith)), holds-first (start-resp (b .start) (≈-sym (f .rest 0 (omega arith))) (≈-sym (f .rest 1 (omega arith)))))))
+
+vanishes-requires : tie.Need-vanishes-requires Inv-loop μ-loop
+vanishes-requires c κs =
+    let l = c .before .before in
+    let s = c .before .before .before .before .before .before .before .before .before .before .before .before in
+    (s .pre .0 .order, in-buffer (l .loop .r) (s .pre .0 .order .upto) (omega arith) (l .loop .inv .1 .0))
+
+same-length-2 : tie.Need-same-length-2 Inv-loop μ-loop
+same-length-2 c =
+    let l = c .before .before .before .before in
+    let s = c .before .before .before .before .before .before .before .before .before .before .before .before .before .before in
+    l .loop .inv .1 .0 ∙ sym (s .pre .1 .1)
+
+returns-3 : tie.Need-returns-3 Inv-loop μ-loop
+returns-3 c =
+    let l = c .before .before .before .before in
+    let s = c .before .before .before .before .before .before .before .before .before .before .before .before .before .before in
+    say-yes (judged-yes (s .pre .0) (l .loop .inv .1 .1 .1) (c .before .vanishes .ensures .yes (c .if3 .taken)))
 
 step-requires : tie.Need-step-requires Inv-loop μ-loop
 step-requires c κs =
-    let l = c .before .before in
-    let s = l .before .before .before .before .before in
+    let l = c .before .before .before .before .before in
+    let s = c .before .before .before .before .before .before .before .before .before .before .before .before .before .before .before in
+    let law = s .pre .0 in
     let v = l .loop .inv in
-    let m = s .pre .0 .order .upto in
+    let m = law .order .upto in
     record {
-      stage = holds-stage (s .pre .0) (s .pre .1 .0 .0 .holds) (need-upto (s .pre .0) (s .pre .1 .0 .0)) (in-buffer (l .loop .r) m (omega arith) (v .1 .0)) (v .1 .1 .1);
+      stage = holds-stage law (enough-32 law) (omega arith) (v .1 .1 .1);
+      here = in-buffer (l .loop .r) m (omega arith) (v .1 .0);
+      low = holds-low law (enough-32 law) (v .1 .1 .1);
       digit = in-buffer 3 m (omega arith) (v .1 .0);
       next = in-buffer (l .loop .s) m (omega arith) (v .1 .0);
       r-m = λ e. omega arith;
@@ -54,26 +95,30 @@ loop-less c = omega arith
 
 loop-again : tie.Need-loop-again Inv-loop μ-loop
 loop-again c =
-    let l = c .before .before .before .before in
+    let l = c .before .before .before .before .before .before .before in
+    let s = c .before .before .before .before .before .before .before .before .before .before .before .before .before .before .before .before .before in
     let v = l .loop .inv in
     let q = c .before .step .ensures in
     (omega arith, (q .long ∙ v .1 .0, ((omega arith, (omega arith, omega arith)), rw add-one (holds-step (λ e. omega arith) (λ e. omega arith) (v .1 .1 .1) q))))
 
-vanishes-requires : tie.Need-vanishes-requires Inv-loop μ-loop
-vanishes-requires c κs =
+vanishes-requires-2 : tie.Need-vanishes-requires-2 Inv-loop μ-loop
+vanishes-requires-2 c κs =
     let l = c .before .before in
-    let s = l .before .before .before .before .before in
+    let s = c .before .before .before .before .before .before .before .before .before .before .before .before in
     (s .pre .0 .order, in-buffer (l .loop .r) (s .pre .0 .order .upto) (omega arith) (l .loop .inv .1 .0))
 
-same-length-2 : tie.Need-same-length-2 Inv-loop μ-loop
-same-length-2 c = c .before .before .before .loop .inv .1 .0 ∙ sym (c .before .before .before .before .before .before .before .before .pre .1 .1)
-
-returns-2 : tie.Need-returns-2 Inv-loop μ-loop
-returns-2 c =
+same-length-3 : tie.Need-same-length-3 Inv-loop μ-loop
+same-length-3 c =
     let l = c .before .before .before in
-    let s = l .before .before .before .before .before in
+    let s = c .before .before .before .before .before .before .before .before .before .before .before .before .before in
+    l .loop .inv .1 .0 ∙ sym (s .pre .1 .1)
+
+returns-4 : tie.Need-returns-4 Inv-loop μ-loop
+returns-4 c =
+    let l = c .before .before .before in
+    let s = c .before .before .before .before .before .before .before .before .before .before .before .before .before in
     let e : l .loop .t ≡ s .args .k = omega arith in
-    judged (s .pre .0) (s .pre .1 .0 .0) (s .pre .1 .0 .1) (rw e at (l .loop .inv .1 .1 .1)) (c .vanishes .ensures)
+    judged-last (s .pre .0) (s .pre .1 .0) (rw e at (l .loop .inv .1 .1 .1)) (c .vanishes2 .ensures)
 
 pub whole-spec : {M : Type 1} → statement M
 whole-spec =
@@ -81,14 +126,20 @@ whole-spec =
     (tie.spec
     Inv-loop
     μ-loop
-    start-requires
-    same-length
+    has-inverse-requires
     returns
+    start-requires
+    fails-requires
+    same-length
+    returns-2
     loop-holds
+    vanishes-requires
+    same-length-2
+    returns-3
     step-requires
     add-t
     loop-less
     loop-again
-    vanishes-requires
-    same-length-2
-    returns-2)
+    vanishes-requires-2
+    same-length-3
+    returns-4)

@@ -1,0 +1,141 @@
+use borrow.Author.Needs.{needs}
+use borrow.Author.Tests.{not-true, not-false}
+use Rattle.lifting.proofs.Calls.Holding.{in-buffer}
+use Rattle.verdict.proofs.Column.{Linear, copy-asks, copied-start, copied-column, copied-fails, linear-first, linear-more, digit-asks, fails-not, fails-so}
+use native.Mathlib.Omega.{arith}
+use Prim.Native.Nat.{ℕ, _+_, _*_, _-_, _≤_, _<_}
+use mathlib.Core.Path.{_≡_, refl, sym, ap, _∙_}
+use Rattle.verdict.proofs.fails.Statement.{statement}
+use Rattle.verdict.proofs.fails.Tie as tie
+
+abbrev Inv-loop : tie.InvT-loop
+Inv-loop n a buf₀ t₀ buf t = (t ≤ n) × ((1 ≤ t) × Linear n a buf₀ t buf)
+
+abbrev μ-loop : tie.MeasureT-loop
+μ-loop n a buf₀ t₀ buf t = n - t
+
+copy-requires : tie.Need-copy-requires Inv-loop μ-loop
+copy-requires c κs = copy-asks (c .before .pre .0) (c .before .pre .1 .0)
+
+loop-holds : tie.Need-loop-holds Inv-loop μ-loop
+loop-holds c =
+    let p = c .before .copy .ensures in
+    let s = c .before .before .before in
+    (s .pre .0 .order .from, (omega arith, linear-first (s .pre .0) (p .long ∙ s .pre .1 .0) (copied-start p (s .args .a .now) (s .pre .1 .1)) (copied-column p (s .pre .0 .order .from))))
+
+vanishes-requires : tie.Need-vanishes-requires Inv-loop μ-loop
+vanishes-requires c κs =
+    let l = c .before .before in
+    let p = c .before .before .before .before .copy .ensures in
+    let s = c .before .before .before .before .before .before in
+    let z = p .long ∙ s .pre .1 .0 in
+    let b = copied-start p (s .args .a .now) (s .pre .1 .1) in
+    (s .pre .0 .order, in-buffer 2 (s .pre .0 .order .upto) (omega arith) (l .loop .inv .1 .1 .long))
+
+same-length : tie.Need-same-length Inv-loop μ-loop
+same-length c =
+    let l = c .before .before .before .before in
+    let p = c .before .before .before .before .before .before .copy .ensures in
+    let s = c .before .before .before .before .before .before .before .before in
+    let z = p .long ∙ s .pre .1 .0 in
+    let b = copied-start p (s .args .a .now) (s .pre .1 .1) in
+    l .loop .inv .1 .1 .long ∙ sym (s .pre .1 .0)
+
+returns : tie.Need-returns Inv-loop μ-loop
+returns c =
+    let l = c .before .before .before .before in
+    let p = c .before .before .before .before .before .before .copy .ensures in
+    let s = c .before .before .before .before .before .before .before .before in
+    let z = p .long ∙ s .pre .1 .0 in
+    let b = copied-start p (s .args .a .now) (s .pre .1 .1) in
+    copied-fails p (fails-not (s .pre .0) z b (l .loop .inv .1 .1))
+
+column-digit-requires : tie.Need-column-digit-requires Inv-loop μ-loop
+column-digit-requires c κs =
+    let l = c .before .before .before .before .before in
+    let p = c .before .before .before .before .before .before .before .copy .ensures in
+    let s = c .before .before .before .before .before .before .before .before .before in
+    let z = p .long ∙ s .pre .1 .0 in
+    let b = copied-start p (s .args .a .now) (s .pre .1 .1) in
+    digit-asks (s .pre .0) z b (l .loop .inv .1 .1)
+
+add-t : tie.Need-add-t Inv-loop μ-loop
+add-t c = omega arith
+
+loop-less : tie.Need-loop-less Inv-loop μ-loop
+loop-less c = omega arith
+
+loop-again : tie.Need-loop-again Inv-loop μ-loop
+loop-again c =
+    let l = c .before .before .before .before .before .before .before in
+    let p = c .before .before .before .before .before .before .before .before .before .copy .ensures in
+    let s = c .before .before .before .before .before .before .before .before .before .before .before in
+    let z = p .long ∙ s .pre .1 .0 in
+    let b = copied-start p (s .args .a .now) (s .pre .1 .1) in
+    (omega arith, (omega arith, linear-more (s .pre .0) z b (l .loop .inv .1 .1) (c .before .column-digit .ensures)))
+
+vanishes-requires-2 : tie.Need-vanishes-requires-2 Inv-loop μ-loop
+vanishes-requires-2 c κs =
+    let l = c .before .before in
+    let p = c .before .before .before .before .copy .ensures in
+    let s = c .before .before .before .before .before .before in
+    let z = p .long ∙ s .pre .1 .0 in
+    let b = copied-start p (s .args .a .now) (s .pre .1 .1) in
+    (s .pre .0 .order, in-buffer 2 (s .pre .0 .order .upto) (omega arith) (l .loop .inv .1 .1 .long))
+
+same-length-2 : tie.Need-same-length-2 Inv-loop μ-loop
+same-length-2 c =
+    let l = c .before .before .before .before in
+    let p = c .before .before .before .before .before .before .copy .ensures in
+    let s = c .before .before .before .before .before .before .before .before in
+    let z = p .long ∙ s .pre .1 .0 in
+    let b = copied-start p (s .args .a .now) (s .pre .1 .1) in
+    l .loop .inv .1 .1 .long ∙ sym (s .pre .1 .0)
+
+returns-2 : tie.Need-returns-2 Inv-loop μ-loop
+returns-2 c =
+    let l = c .before .before .before .before in
+    let p = c .before .before .before .before .before .before .copy .ensures in
+    let s = c .before .before .before .before .before .before .before .before in
+    let z = p .long ∙ s .pre .1 .0 in
+    let b = copied-start p (s .args .a .now) (s .pre .1 .1) in
+    copied-fails p (fails-not (s .pre .0) z b (l .loop .inv .1 .1))
+
+same-length-3 : tie.Need-same-length-3 Inv-loop μ-loop
+same-length-3 c =
+    let l = c .before .before .before .before in
+    let p = c .before .before .before .before .before .before .copy .ensures in
+    let s = c .before .before .before .before .before .before .before .before in
+    let z = p .long ∙ s .pre .1 .0 in
+    let b = copied-start p (s .args .a .now) (s .pre .1 .1) in
+    l .loop .inv .1 .1 .long ∙ sym (s .pre .1 .0)
+
+returns-3 : tie.Need-returns-3 Inv-loop μ-loop
+returns-3 c =
+    let l = c .before .before .before .before in
+    let p = c .before .before .before .before .before .before .copy .ensures in
+    let s = c .before .before .before .before .before .before .before .before in
+    let z = p .long ∙ s .pre .1 .0 in
+    let b = copied-start p (s .args .a .now) (s .pre .1 .1) in
+    copied-fails p (fails-so (s .pre .0) z b (l .loop .inv .1 .1) (omega arith) (l .loop .inv .0) (c .before .vanishes2 .ensures .no (c .if2 .left)))
+
+pub fails-spec : {M : Type 1} → statement M
+fails-spec =
+    tie.close
+    (tie.spec
+    Inv-loop
+    μ-loop
+    copy-requires
+    loop-holds
+    vanishes-requires
+    same-length
+    returns
+    column-digit-requires
+    add-t
+    loop-less
+    loop-again
+    vanishes-requires-2
+    same-length-2
+    returns-2
+    same-length-3
+    returns-3)
