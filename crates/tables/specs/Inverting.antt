@@ -1,7 +1,6 @@
 -- The inverse modulo 2^32, by the elimination on tables of residues. The first name is the answer of `inverse`; the others are the vocabulary of inner
 -- contracts, which a reader of the calls can skip. The elimination's columns are the rows here: it works on the tables turned over.
 --   Inverted n A o old new     block o holds an inverse of A modulo 2^32, in residues, and all else is as it was
---   cells n t                  the table of residues that the list t holds, row by row
 --   Spans n c p                n is at most 32, and both lists hold a table
 --   Zeros t                    the list holds zeros only
 --   RowStep n d s a f t t′     modulo 2^32, row d becomes a times itself and f times row s
@@ -18,15 +17,13 @@ use Rattle.numbers.specs.Numbers.{Cong, δ}
 use Rattle.tables.specs.Tables.{Matrix, _≈⟨_⟩_, _·⟨_⟩_, _ᵀ, CongM, block}
 use Rattle.tables.specs.Buffer.{Low}
 use Rattle.tables.specs.Elimination.{Stepped, Keeps}
+use Rattle.tables.specs.Residues.{residues}
 
 pub record Inverted (n : ℕ) (A : Matrix) (o : ℕ) (old new : List ℤ) : Type 0 where
   pub long : length new ≡ length old
   pub right : CongM n (pos (2 ^ 32)) (A ·⟨ n ⟩ block n new o) δ
   pub low : Low n (2 ^ 32) (block n new o)
   pub rest : (b : ℕ) → b ≢ o → block n new b ≈⟨ n ⟩ block n old b
-
-abbrev pub cells : ℕ → List ℕ → Matrix
-cells n t i j = pos (getD t (i * n + j) 0)
 
 pub record Spans (n : ℕ) (c p : List ℕ) : Type 0 where
   pub order : n ≤ 32
@@ -38,20 +35,20 @@ Zeros t = (k : ℕ) → getD t k 0 ≡ 0
 
 pub record RowStep (n d s : ℕ) (a f : ℤ) (t t′ : List ℕ) : Type 0 where
   pub long : length t′ ≡ length t
-  pub step : Stepped (pos (2 ^ 32)) n d s a f (cells n t ᵀ) (cells n t′ ᵀ)
+  pub step : Stepped (pos (2 ^ 32)) n d s a f (residues n t ᵀ) (residues n t′ ᵀ)
 
 pub record Held (n r : ℕ) (t row : List ℕ) : Type 0 where
   pub long : n ≤ length row
-  pub same : (j : ℕ) → j < n → Cong (pos (2 ^ 32)) (pos (getD row j 0)) (cells n t r j)
+  pub same : (j : ℕ) → j < n → Cong (pos (2 ^ 32)) (pos (getD row j 0)) (residues n t r j)
 
 pub record Ready (x : ℤ) (n r : ℕ) (c p c′ p′ : List ℕ) : Type 0 where
   pub spans : Spans n c′ p′
-  pub keeps : Keeps n (2 ^ 32) r (cells n c ᵀ) (cells n p ᵀ) (cells n c′ ᵀ) (cells n p′ ᵀ)
-  pub one : Cong x (cells n p′ r r) (pos 1)
+  pub keeps : Keeps n (2 ^ 32) r (residues n c ᵀ) (residues n p ᵀ) (residues n c′ ᵀ) (residues n p′ ᵀ)
+  pub one : Cong x (residues n p′ r r) (pos 1)
 
 pub record Sweep (n r : ℕ) (v w c p : List ℕ) : Type 0 where
   pub inside : r < n
   pub spans : Spans n c p
-  pub one : Cong (pos (2 ^ 32)) (cells n p r r) (pos 1)
+  pub one : Cong (pos (2 ^ 32)) (residues n p r r) (pos 1)
   pub held-c : Held n r c v
   pub held-p : Held n r p w

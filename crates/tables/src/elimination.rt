@@ -10,7 +10,8 @@ ghost use Rattle.tables.specs.Tables.{_·⟨_⟩_, _ᵀ, CongM, entries,
 ghost use Rattle.tables.specs.Buffer.{Low, Has, Put, Wrote};
 ghost use Rattle.tables.specs.Checks.{Lawful};
 ghost use Rattle.tables.specs.Elimination.{Advances, None, Pivot};
-ghost use Rattle.tables.specs.Inverting.{Inverted, cells, Spans, Zeros, RowStep, Ready, Sweep};
+ghost use Rattle.tables.specs.Inverting.{Inverted, Spans, Zeros, RowStep, Ready, Sweep};
+ghost use Rattle.tables.specs.Residues.{residues};
 
 // Block o becomes an inverse of the table a modulo 2^32, in residues from 0 to 2^32 - 1.
 pub fn inverse(n: usize, a: &[i64], buf: &mut [i64], o: usize)
@@ -27,7 +28,7 @@ pub fn inverse(n: usize, a: &[i64], buf: &mut [i64], o: usize)
 fn solve(n: usize, a: &[i64], c: &mut [u32], p: &mut [u32])
     requires { ⌜ (Lawful n (now a)) × (HasInverseMod n 2 (entries n (now a))) ⌝ }
     requires { ⌜ (Spans n (now c) (now p)) × (Zeros (now c)) ⌝ }
-    ensures { λ _. ⌜ (length (now (c .exit)) ≡ length (now (c .entry))) × CongM n (pos (2 ^ 32)) (entries n (now (a .entry)) ·⟨ n ⟩ cells n (now (c .exit))) δ ⌝ }
+    ensures { λ _. ⌜ (length (now (c .exit)) ≡ length (now (c .entry))) × CongM n (pos (2 ^ 32)) (entries n (now (a .entry)) ·⟨ n ⟩ residues n (now (c .exit))) δ ⌝ }
 {
     ones(n, c);
     load(n, a, p);
@@ -41,8 +42,8 @@ fn solve(n: usize, a: &[i64], c: &mut [u32], p: &mut [u32])
 // Column r of p becomes that of the identity.
 fn settle(n: usize, r: usize, c: &mut [u32], p: &mut [u32])
     requires { ⌜ (r < n) × Spans n (now c) (now p) ⌝ }
-    requires { ⌜ ¬ None 2 n r (cells n (now p) ᵀ) ⌝ }
-    ensures { λ _. ⌜ (Spans n (now (c .exit)) (now (p .exit))) × Advances n (2 ^ 32) r (cells n (now (c .entry)) ᵀ) (cells n (now (p .entry)) ᵀ) (cells n (now (c .exit)) ᵀ) (cells n (now (p .exit)) ᵀ) ⌝ }
+    requires { ⌜ ¬ None 2 n r (residues n (now p) ᵀ) ⌝ }
+    ensures { λ _. ⌜ (Spans n (now (c .exit)) (now (p .exit))) × Advances n (2 ^ 32) r (residues n (now (c .entry)) ᵀ) (residues n (now (p .entry)) ᵀ) (residues n (now (c .exit)) ᵀ) (residues n (now (p .exit)) ᵀ) ⌝ }
 {
     lead(n, r, c, p);
     scale(n, r, c, p);
@@ -52,7 +53,7 @@ fn settle(n: usize, r: usize, c: &mut [u32], p: &mut [u32])
 // Where the entry of p at row r and column r is even, row r gains the first row below it whose entry in that column is odd.
 fn lead(n: usize, r: usize, c: &mut [u32], p: &mut [u32])
     requires { ⌜ (r < n) × Spans n (now c) (now p) ⌝ }
-    requires { ⌜ ¬ None 2 n r (cells n (now p) ᵀ) ⌝ }
+    requires { ⌜ ¬ None 2 n r (residues n (now p) ᵀ) ⌝ }
     ensures { λ _. ⌜ Ready (pos 2) n r (now (c .entry)) (now (p .entry)) (now (c .exit)) (now (p .exit)) ⌝ }
 {
     let s = pivot(n, r, p);
@@ -65,8 +66,8 @@ fn lead(n: usize, r: usize, c: &mut [u32], p: &mut [u32])
 // The first row from r on whose entry in column r is odd: there is one.
 fn pivot(n: usize, r: usize, p: &[u32]) -> usize
     requires { ⌜ (n ≤ 32) × ((r < n) × (n * n ≤ length (now p))) ⌝ }
-    requires { ⌜ ¬ None 2 n r (cells n (now p) ᵀ) ⌝ }
-    ensures { λ s. ⌜ (s < n) × Pivot n r (cells n (now (p .entry)) ᵀ) s ⌝ }
+    requires { ⌜ ¬ None 2 n r (residues n (now p) ᵀ) ⌝ }
+    ensures { λ s. ⌜ (s < n) × Pivot n r (residues n (now (p .entry)) ᵀ) s ⌝ }
 {
     let mut s = r;
     while p[s * n + r] % 2 == 0 {
@@ -88,7 +89,7 @@ fn gain(n: usize, d: usize, s: usize, t: &mut [u32])
 // Row r, whose entry in column r of p is odd, is multiplied so that this entry is 1.
 fn scale(n: usize, r: usize, c: &mut [u32], p: &mut [u32])
     requires { ⌜ (r < n) × Spans n (now c) (now p) ⌝ }
-    requires { ⌜ Cong (pos 2) (cells n (now p) r r) (pos 1) ⌝ }
+    requires { ⌜ Cong (pos 2) (residues n (now p) r r) (pos 1) ⌝ }
     ensures { λ _. ⌜ Ready (pos (2 ^ 32)) n r (now (c .entry)) (now (p .entry)) (now (c .exit)) (now (p .exit)) ⌝ }
 {
     let u = unit(p[r * n + r]);
@@ -99,8 +100,8 @@ fn scale(n: usize, r: usize, c: &mut [u32], p: &mut [u32])
 // Row r, whose entry in column r of p is 1, clears that column in every other row.
 fn clear(n: usize, r: usize, c: &mut [u32], p: &mut [u32])
     requires { ⌜ (r < n) × Spans n (now c) (now p) ⌝ }
-    requires { ⌜ Cong (pos (2 ^ 32)) (cells n (now p) r r) (pos 1) ⌝ }
-    ensures { λ _. ⌜ (Spans n (now (c .exit)) (now (p .exit))) × Advances n (2 ^ 32) r (cells n (now (c .entry)) ᵀ) (cells n (now (p .entry)) ᵀ) (cells n (now (c .exit)) ᵀ) (cells n (now (p .exit)) ᵀ) ⌝ }
+    requires { ⌜ Cong (pos (2 ^ 32)) (residues n (now p) r r) (pos 1) ⌝ }
+    ensures { λ _. ⌜ (Spans n (now (c .exit)) (now (p .exit))) × Advances n (2 ^ 32) r (residues n (now (c .entry)) ᵀ) (residues n (now (p .entry)) ᵀ) (residues n (now (c .exit)) ᵀ) (residues n (now (p .exit)) ᵀ) ⌝ }
 {
     let mut v = [0u32; 32];
     let mut w = [0u32; 32];
@@ -112,7 +113,7 @@ fn clear(n: usize, r: usize, c: &mut [u32], p: &mut [u32])
 // The same, with the rows r of c and p in v and w.
 fn sweep(n: usize, r: usize, v: &[u32], w: &[u32], c: &mut [u32], p: &mut [u32])
     requires { ⌜ Sweep n r (now v) (now w) (now c) (now p) ⌝ }
-    ensures { λ _. ⌜ (Spans n (now (c .exit)) (now (p .exit))) × Advances n (2 ^ 32) r (cells n (now (c .entry)) ᵀ) (cells n (now (p .entry)) ᵀ) (cells n (now (c .exit)) ᵀ) (cells n (now (p .exit)) ᵀ) ⌝ }
+    ensures { λ _. ⌜ (Spans n (now (c .exit)) (now (p .exit))) × Advances n (2 ^ 32) r (residues n (now (c .entry)) ᵀ) (residues n (now (p .entry)) ᵀ) (residues n (now (c .exit)) ᵀ) (residues n (now (p .exit)) ᵀ) ⌝ }
 {
     let mut d: usize = 0;
     while d < n {
@@ -128,7 +129,7 @@ fn sweep(n: usize, r: usize, v: &[u32], w: &[u32], c: &mut [u32], p: &mut [u32])
 // Ones on the diagonal of a table of zeros.
 fn ones(n: usize, c: &mut [u32])
     requires { ⌜ (n ≤ 32) × ((n * n ≤ length (now c)) × Zeros (now c)) ⌝ }
-    ensures { λ _. ⌜ (length (now (c .exit)) ≡ length (now (c .entry))) × CongM n (pos (2 ^ 32)) (cells n (now (c .exit)) ᵀ) δ ⌝ }
+    ensures { λ _. ⌜ (length (now (c .exit)) ≡ length (now (c .entry))) × CongM n (pos (2 ^ 32)) (residues n (now (c .exit)) ᵀ) δ ⌝ }
 {
     let mut i: usize = 0;
     while i < n {
@@ -154,7 +155,7 @@ fn load(n: usize, a: &[i64], p: &mut [u32])
 // Block o becomes the table of residues in c.
 fn widen(n: usize, c: &[u32], buf: &mut [i64], o: usize)
     requires { ⌜ (n ≤ 32) × ((n * n ≤ length (now c)) × (Has n (now buf) o)) ⌝ }
-    ensures { λ _. ⌜ (Put n (cells n (now (c .entry))) o (now (buf .entry)) (now (buf .exit))) × Low n (2 ^ 32) (cells n (now (c .entry))) ⌝ }
+    ensures { λ _. ⌜ (Put n (residues n (now (c .entry))) o (now (buf .entry)) (now (buf .exit))) × Low n (2 ^ 32) (residues n (now (c .entry))) ⌝ }
 {
     let m = n * n;
     let oa = o * m;

@@ -16,7 +16,8 @@ use Rattle.numbers.proofs.Remainders.Congruence.{cong-of-eq, cong-trans}
 use Rattle.numbers.proofs.Remainders.Division.{residue-cong}
 use Rattle.tables.specs.Tables.{Matrix, _·⟨_⟩_, _ᵀ, CongM, entries}
 use Rattle.tables.specs.Buffer.{Low, Put, Wrote}
-use Rattle.tables.specs.Inverting.{Inverted, cells, Spans, Zeros}
+use Rattle.tables.specs.Inverting.{Inverted, Spans, Zeros}
+use Rattle.tables.specs.Residues.{residues}
 use Rattle.tables.proofs.Algebra.Matrix.{congM-eq, congM-refl, congM-trans, congM-·, ≈-sym}
 use Rattle.tables.proofs.Buffers.Places.{flat, square-small}
 use Rattle.tables.proofs.Buffers.Kernels.{low-≈}
@@ -41,7 +42,7 @@ fresh {n} h = record { order = h; long-c = room; long-p = room }
 -- the first k rows are those of I, and the others are 0
 pub record Diagonal (n k : ℕ) (old t : List ℕ) : Type 0 where
   pub long : length t ≡ length old
-  pub done : (i j : ℕ) → i < k → j < n → cells n t i j ≡ δ i j
+  pub done : (i j : ℕ) → i < k → j < n → residues n t i j ≡ δ i j
   pub left : (i j : ℕ) → k ≤ i → j < n → getD t (i * n + j) 0 ≡ 0
 
 pub diagonal-none : {n : ℕ} {t : List ℕ} → Zeros t → Diagonal n 0 t t
@@ -67,18 +68,18 @@ diagonal-more {n} {k} {old} {t} h l q = record {
     fits : k * n + k < length t
     fits = omega (arith, digits-lt h h, q .long)
 
-    row : (i j : ℕ) → i < k + 1 → j < n → Dec (i ≡ k) → Dec (j ≡ k) → cells n (set t (k * n + k) 1) i j ≡ δ i j
+    row : (i j : ℕ) → i < k + 1 → j < n → Dec (i ≡ k) → Dec (j ≡ k) → residues n (set t (k * n + k) 1) i j ≡ δ i j
     row i j hi hj (no e) f = ap pos (other i j (λ p. e (same-row i j hj p))) ∙ q .done i j (omega arith) hj
     row i j hi hj (yes e) (no f) =
         ap pos (other i j (λ p. f (same-column i j hj p)) ∙ q .left i j (omega arith) hj) ∙ sym (δ-other (λ p. f (sym p ∙ e)))
     row i j hi hj (yes e) (yes f) = rw (e, f) (ap pos (getD-set-same t (k * n + k) 1 0 fits) ∙ sym (δ-same k))
 
-pub diagonal-all : {n k : ℕ} {old t : List ℕ} → k ≡ n → Diagonal n k old t → CongM n X (cells n t ᵀ) δ
+pub diagonal-all : {n k : ℕ} {old t : List ℕ} → k ≡ n → Diagonal n k old t → CongM n X (residues n t ᵀ) δ
 diagonal-all e q i j hi hj = cong-of-eq X (q .done j i (omega arith) hi ∙ δ-comm j i)
 
 -- ---- the residues of a table
 
-pub loaded : {n : ℕ} (a : List ℤ) {p p′ : List ℕ} → Wrote 0 (λ t. residue (2 ^ 32) (getD a t (pos 0))) 0 (n * n) p p′ → CongM n X (cells n p′ ᵀ) (entries n a ᵀ)
+pub loaded : {n : ℕ} (a : List ℤ) {p p′ : List ℕ} → Wrote 0 (λ t. residue (2 ^ 32) (getD a t (pos 0))) 0 (n * n) p p′ → CongM n X (residues n p′ ᵀ) (entries n a ᵀ)
 loaded {n} a {p′ = p′} w i j hi hj =
     let t : ℕ = j * n + i in
     cong-trans (cong-of-eq X (ap pos (ap (λ (k : ℕ). getD p′ k 0) (sym (zero-add t)) ∙ w .inside t (digits-lt hj hi))))
@@ -86,14 +87,14 @@ loaded {n} a {p′ = p′} w i j hi hj =
 
 -- ---- the solution
 
-pub flat-cells : (n : ℕ) (c : List ℕ) (t : ℕ) → flat n (cells n c) t ≡ pos (getD c t 0)
-flat-cells n c t = ap (λ (m : ℕ). pos (getD c m 0)) (div-add-mod' t n)
+pub flat-residues : (n : ℕ) (c : List ℕ) (t : ℕ) → flat n (residues n c) t ≡ pos (getD c t 0)
+flat-residues n c t = ap (λ (m : ℕ). pos (getD c m 0)) (div-add-mod' t n)
 
-pub low-cells : {n : ℕ} (c : List ℕ) → ((k : ℕ) → k < n * n → getD c k 0 < 2 ^ 32) → Low n (2 ^ 32) (cells n c)
-low-cells {n} c f = record { low = λ i j h k. let l = f (i * n + j) (digits-lt h k) in omega arith }
+pub low-residues : {n : ℕ} (c : List ℕ) → ((k : ℕ) → k < n * n → getD c k 0 < 2 ^ 32) → Low n (2 ^ 32) (residues n c)
+low-residues {n} c f = record { low = λ i j h k. let l = f (i * n + j) (digits-lt h k) in omega arith }
 
-pub inverted : {n o : ℕ} (A : Matrix) (c : List ℕ) {old new : List ℤ} → CongM n X (A ·⟨ n ⟩ cells n c) δ
-    → Put n (cells n c) o old new → Low n (2 ^ 32) (cells n c) → Inverted n A o old new
+pub inverted : {n o : ℕ} (A : Matrix) (c : List ℕ) {old new : List ℤ} → CongM n X (A ·⟨ n ⟩ residues n c) δ
+    → Put n (residues n c) o old new → Low n (2 ^ 32) (residues n c) → Inverted n A o old new
 inverted {n} A c e p l = record {
   long = p .long;
   right = congM-trans n X (congM-· n X (congM-refl n X A) (congM-eq n X (p .there))) e;

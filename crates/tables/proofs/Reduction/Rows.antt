@@ -13,7 +13,8 @@ use Rattle.numbers.proofs.Remainders.Congruence.{Cong, cong-of-eq, cong-refl, c
 use Rattle.tables.specs.Tables.{Matrix, _ᵀ}
 use Rattle.tables.specs.Buffer.{Wrote}
 use Rattle.tables.specs.Elimination.{Going, Advances, Pivot}
-use Rattle.tables.specs.Inverting.{cells, Spans, RowStep, Held, Ready, Sweep}
+use Rattle.tables.specs.Inverting.{Spans, RowStep, Held, Ready, Sweep}
+use Rattle.tables.specs.Residues.{residues}
 use Rattle.tables.proofs.Buffers.Places.{beside}
 use Rattle.tables.proofs.Reduction.Steps.{stepped-down, going-step, going-add}
 use Rattle.tables.proofs.Reduction.Stages.{Clearing, pivot-odd, clear-none, clear-pivot, clear-add, clear-all}
@@ -23,7 +24,7 @@ use Rattle.tables.proofs.Reduction.Units.{X, fold-cong}
 
 -- row d is g, which is a times itself and f times row s
 row-step : {n d s : ℕ} {a f : ℤ} {g : ℕ → ℕ} {t t′ : List ℕ} → Wrote 0 g (d * n) n t t′
-    → ((i : ℕ) → i < n → Cong X (pos (g i)) (a *ℤ cells n t d i +ℤ f *ℤ cells n t s i)) → RowStep n d s a f t t′
+    → ((i : ℕ) → i < n → Cong X (pos (g i)) (a *ℤ residues n t d i +ℤ f *ℤ residues n t s i)) → RowStep n d s a f t t′
 row-step {n} {d} {t = t} {t′ = t′} w e = record {
   long = w .long;
   step = record {
@@ -71,7 +72,7 @@ spans-on q w z = record { order = z .order; long-c = omega (arith, z .long-c, q 
 
 -- ---- `lead`
 
-module _ {n r s : ℕ} {c p : List ℕ} (z : Spans n c p) (v : Pivot n r (cells n p ᵀ) s) (h : r < n) (l : s < n) where
+module _ {n r s : ℕ} {c p : List ℕ} (z : Spans n c p) (v : Pivot n r (residues n p ᵀ) s) (h : r < n) (l : s < n) where
   pub lead-here : s ≡ r → Ready (pos 2) n r c p c p
   lead-here e = record { spans = z; keeps = record { on = λ A g. g }; one = rw e at (v .one l) }
 
@@ -84,7 +85,7 @@ module _ {n r s : ℕ} {c p : List ℕ} (z : Spans n c p) (v : Pivot n r (cells 
 
 -- ---- `scale`
 
-pub scale-ready : {n r u : ℕ} {c p c′ p′ : List ℕ} → r < n → Spans n c p → Cong X (pos u *ℤ cells n p r r) (pos 1)
+pub scale-ready : {n r u : ℕ} {c p c′ p′ : List ℕ} → r < n → Spans n c p → Cong X (pos u *ℤ residues n p r r) (pos 1)
     → RowStep n r r (pos u) (pos 0) c c′ → RowStep n r r (pos u) (pos 0) p p′ → Ready X n r c p c′ p′
 scale-ready {n} {r} {u} {p = p} h z e q w = record {
   spans = spans-on q w z;
@@ -103,7 +104,7 @@ scale-ready {n} {r} {u} {p = p} h z e q w = record {
 }
   where
     g₀ : ℤ
-    g₀ = cells n p r r
+    g₀ = residues n p r r
 
     apart : {i : ℕ} → i < r → i ≢ r
     apart l e = omega arith
@@ -119,7 +120,7 @@ pub record Sweeping (n k r : ℕ) (v w c p c′ p′ : List ℕ) : Type 0 where
   pub spans : Spans n c′ p′
   pub held-c : Held n r c′ v
   pub held-p : Held n r p′ w
-  pub goes : (A : Matrix) → Going n (2 ^ 32) r A (cells n c ᵀ) (cells n p ᵀ) → Clearing n (2 ^ 32) k r A (cells n c′ ᵀ) (cells n p′ ᵀ)
+  pub goes : (A : Matrix) → Going n (2 ^ 32) r A (residues n c ᵀ) (residues n p ᵀ) → Clearing n (2 ^ 32) k r A (residues n c′ ᵀ) (residues n p′ ᵀ)
 
 pub sweep-none : {n r : ℕ} {v w c p : List ℕ} → Sweep n r v w c p → Sweeping n 0 r v w c p c p
 sweep-none s = record { long-c = refl; long-p = refl; spans = s .spans; held-c = s .held-c; held-p = s .held-p; goes = λ A g. clear-none (s .one) g }
@@ -128,7 +129,7 @@ module _ {n k r : ℕ} {v w c p c′ p′ : List ℕ} (q : Sweeping n k r v w c 
   pub sweep-pivot : k ≡ r → Sweeping n (k + 1) r v w c p c′ p′
   sweep-pivot e = record { long-c = q .long-c; long-p = q .long-p; spans = q .spans; held-c = q .held-c; held-p = q .held-p; goes = λ A g. clear-pivot e (q .goes A g) }
 
-  pub sweep-row : {f : ℕ} {c″ p″ : List ℕ} → r < n → k < n → k ≢ r → Cong X (pos f) (negℤ (cells n p′ k r))
+  pub sweep-row : {f : ℕ} {c″ p″ : List ℕ} → r < n → k < n → k ≢ r → Cong X (pos f) (negℤ (residues n p′ k r))
       → RowStep n k r (pos 1) (pos f) c′ c″ → RowStep n k r (pos 1) (pos f) p′ p″ → Sweeping n (k + 1) r v w c p c″ p″
   sweep-row {f} hr hk e z s t = record {
     long-c = s .long ∙ q .long-c;
@@ -140,10 +141,10 @@ module _ {n k r : ℕ} {v w c p c′ p′ : List ℕ} (q : Sweeping n k r v w c 
   }
     where
       y : ℤ
-      y = cells n p′ k r
+      y = residues n p′ k r
 
       gone : Cong X (y +ℤ pos f) (pos 0)
       gone = cong-trans (cong-+ (cong-refl y) z) (cong-of-eq X (ring 1 (λ y. y ⊕ (⊝ y) ≐ # 0) tt y))
 
-  pub sweep-all : k ≡ n → Advances n (2 ^ 32) r (cells n c ᵀ) (cells n p ᵀ) (cells n c′ ᵀ) (cells n p′ ᵀ)
+  pub sweep-all : k ≡ n → Advances n (2 ^ 32) r (residues n c ᵀ) (residues n p ᵀ) (residues n c′ ᵀ) (residues n p′ ᵀ)
   sweep-all e = record { on = λ A g. clear-all e (q .goes A g) }

@@ -1,7 +1,7 @@
 use Rattle.tables.proofs.Reduction.Stages.{none-inside}
 use Rattle.tables.specs.Tables.{_ᵀ}
 use Rattle.tables.specs.Elimination.{None}
-use Rattle.tables.specs.Inverting.{cells}
+use Rattle.tables.specs.Residues.{residues}
 use Rattle.tables.proofs.Reduction.Stages.{none-more}
 use Rattle.tables.proofs.Reduction.Bits.{even-cong, odd-cong}
 use Rattle.tables.proofs.Buffers.Places.{square-small}
@@ -12,7 +12,7 @@ use Rattle.tables.proofs.elimination.pivot.Statement.{statement}
 use Rattle.tables.proofs.elimination.pivot.Tie as tie
 
 abbrev Inv-loop : tie.InvT-loop
-Inv-loop n r p s₀ s = (r ≤ s) × ((s ≤ n) × None 2 s r (cells n p ᵀ))
+Inv-loop n r p s₀ s = (r ≤ s) × ((s ≤ n) × None 2 s r (residues n p ᵀ))
 
 abbrev μ-loop : tie.MeasureT-loop
 μ-loop n r p s₀ s = n - s
@@ -22,7 +22,7 @@ loop-holds c = (omega arith, (omega arith, λ j h k. absurd (omega arith)))
 
 -- the row has an odd entry, so s is below n
 inside : (c : tie.At-loop Inv-loop μ-loop) → c .loop .s < c .before .args .n
-inside c = let g = c .before .args in none-inside 2 (g .n) (c .loop .s) (g .r) (cells (g .n) (g .p .now) ᵀ) (c .before .pre .1) (c .loop .inv .1 .0) (c .loop .inv .1 .1)
+inside c = let g = c .before .args in none-inside 2 (g .n) (c .loop .s) (g .r) (residues (g .n) (g .p .now) ᵀ) (c .before .pre .1) (c .loop .inv .1 .0) (c .loop .inv .1 .1)
 
 mul-if1 : tie.Need-mul-if1 Inv-loop μ-loop
 mul-if1 c = omega (arith, digits-lt (inside c) (c .before .pre .0 .1 .0), square-small (c .before .pre .0 .0))
@@ -46,7 +46,7 @@ loop-again : tie.Need-loop-again Inv-loop μ-loop
 loop-again c =
     let l = c .before .before in
     let g = l .before .args in
-    (omega arith, (omega (arith, inside l), none-more 2 _ _ (cells (g .n) (g .p .now) ᵀ) (l .loop .inv .1 .1) (even-cong (c .if1 .taken))))
+    (omega arith, (omega (arith, inside l), none-more 2 _ _ (residues (g .n) (g .p .now) ᵀ) (l .loop .inv .1 .1) (even-cong (c .if1 .taken))))
 
 returns : tie.Need-returns Inv-loop μ-loop
 returns c =

@@ -2,7 +2,8 @@ use lib.IntN.{pos}
 use lib.ListN.{length}
 use Rattle.tables.specs.Tables.{_ᵀ, entries}
 use Rattle.tables.specs.Elimination.{Going}
-use Rattle.tables.specs.Inverting.{cells, Spans}
+use Rattle.tables.specs.Inverting.{Spans}
+use Rattle.tables.specs.Residues.{residues}
 use Rattle.tables.proofs.Inverses.Turned.{inverse-turned, has-turned}
 use Rattle.tables.proofs.Reduction.Stages.{going-first, found, stuck}
 use Rattle.tables.proofs.Reduction.Ends.{loaded}
@@ -14,7 +15,7 @@ use Rattle.tables.proofs.elimination.solve.Tie as tie
 
 abbrev Inv-loop : tie.InvT-loop
 Inv-loop n a c₀ p₀ r₀ c p r =
-    (r ≤ n) × ((length c ≡ length c₀) × ((length p ≡ length p₀) × (Spans n c p × Going n (2 ^ 32) r (entries n a ᵀ) (cells n c ᵀ) (cells n p ᵀ))))
+    (r ≤ n) × ((length c ≡ length c₀) × ((length p ≡ length p₀) × (Spans n c p × Going n (2 ^ 32) r (entries n a ᵀ) (residues n c ᵀ) (residues n p ᵀ))))
 
 abbrev μ-loop : tie.MeasureT-loop
 μ-loop n a c₀ p₀ r₀ c p r = n - r
@@ -75,7 +76,7 @@ returns c =
     let s = c .before .before .before .before .before .before .before .before .before .before .before .before in
     let n = s .args .n in
     let l = c .before .loop in
-    (l .inv .1 .0 ∙ c .before .before .before .before .before .before .before .before .ones .ensures .0, inverse-turned (2 ^ 32) n (omega arith) (entries n (s .args .a .now) ᵀ) (cells n (l .c) ᵀ) (found (omega arith) (l .inv .1 .1 .1 .1)))
+    (l .inv .1 .0 ∙ c .before .before .before .before .before .before .before .before .ones .ensures .0, inverse-turned (2 ^ 32) n (omega arith) (entries n (s .args .a .now) ᵀ) (residues n (l .c) ᵀ) (found (omega arith) (l .inv .1 .1 .1 .1)))
 
 pub solve-spec : {M : Type 1} → statement M
 solve-spec =

@@ -1,10 +1,10 @@
 use lib.IntN.{pos}
 use Rattle.numbers.proofs.Machine.{rd-got}
 use Rattle.tables.specs.Buffer.{Wrote}
-use Rattle.tables.specs.Inverting.{cells}
+use Rattle.tables.specs.Residues.{residues}
 use Rattle.tables.proofs.Buffers.Wrote.{wrote-none, wrote-more}
 use Rattle.tables.proofs.Buffers.Places.{square-small, flat, put-of}
-use Rattle.tables.proofs.Reduction.Ends.{flat-cells, low-cells}
+use Rattle.tables.proofs.Reduction.Ends.{flat-residues, low-residues}
 use borrow.Author.Needs.{needs}
 use native.Mathlib.Omega.{arith}
 use Prim.Native.Nat.{_*_, _-_, _≤_}
@@ -13,7 +13,7 @@ use Rattle.tables.proofs.elimination.widen.Statement.{statement}
 use Rattle.tables.proofs.elimination.widen.Tie as tie
 
 abbrev Inv-loop : tie.InvT-loop
-Inv-loop n c buf₀ o m oa t₀ buf t = (t ≤ n * n) × Wrote (pos 0) (flat n (cells n c)) (o * (n * n)) t buf₀ buf
+Inv-loop n c buf₀ o m oa t₀ buf t = (t ≤ n * n) × Wrote (pos 0) (flat n (residues n c)) (o * (n * n)) t buf₀ buf
 
 abbrev μ-loop : tie.MeasureT-loop
 μ-loop n c buf₀ o m oa t₀ buf t = n * n - t
@@ -55,7 +55,7 @@ loop-again : tie.Need-loop-again Inv-loop μ-loop
 loop-again c =
     let l = c .before .before .before in
     let g = l .before .before .args in
-    (omega arith, wrote-more _ _ _ _ _ _ (omega arith) (rd-got _ (c .wide .ok) (c .wide .ensures) ∙ sym (flat-cells (g .n) (g .c .now) (l .loop .t))) (l .loop .inv .1))
+    (omega arith, wrote-more _ _ _ _ _ _ (omega arith) (rd-got _ (c .wide .ok) (c .wide .ensures) ∙ sym (flat-residues (g .n) (g .c .now) (l .loop .t))) (l .loop .inv .1))
 
 same-length : tie.Need-same-length Inv-loop μ-loop
 same-length c = c .before .loop .inv .1 .long
@@ -65,7 +65,7 @@ returns c =
     let s = c .before .before .before in
     let n = s .args .n in
     let e : c .before .loop .t ≡ n * n = omega arith in
-    (put-of n (s .args .o) (rw e at (c .before .loop .inv .1)), low-cells (s .args .c .now) (λ k h. omega (arith, c .before .before .shared-slice-known .given k)))
+    (put-of n (s .args .o) (rw e at (c .before .loop .inv .1)), low-residues (s .args .c .now) (λ k h. omega (arith, c .before .before .shared-slice-known .given k)))
 
 pub widen-spec : {M : Type 1} → statement M
 widen-spec =
