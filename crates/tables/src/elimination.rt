@@ -161,17 +161,10 @@ fn widen(n: usize, c: &[u32], buf: &mut [i64], o: usize)
     let oa = o * m;
     let mut t: usize = 0;
     while t < m {
-        let v = wide(c[t]);
+        let v = numbers::signed(c[t]);
         buf[oa + t] = v;
         t += 1;
     }
-}
-
-// A residue as a signed number.
-fn wide(x: u32) -> i64
-    ensures { λ r. ⌜ r ≡ pos x ⌝ }
-{
-    x as i64
 }
 
 // An inverse of an odd number modulo 2^32: each step doubles the number of bits that are right.

@@ -27,14 +27,14 @@ mul-oa c = omega arith
 loop-holds : tie.Need-loop-holds Inv-loop μ-loop
 loop-holds c = (omega arith, wrote-none _ _ _)
 
-mul-wide : tie.Need-mul-wide Inv-loop μ-loop
-mul-wide c = omega arith
+mul-signed : tie.Need-mul-signed Inv-loop μ-loop
+mul-signed c = omega arith
 
-shared-slice-read-wide : tie.Need-shared-slice-read-wide Inv-loop μ-loop
-shared-slice-read-wide c = omega arith
+shared-slice-read-signed : tie.Need-shared-slice-read-signed Inv-loop μ-loop
+shared-slice-read-signed c = omega arith
 
-wide-requires : tie.Need-wide-requires Inv-loop μ-loop
-wide-requires c κs = search needs
+signed-requires : tie.Need-signed-requires Inv-loop μ-loop
+signed-requires c κs = search needs
 
 add-v : tie.Need-add-v Inv-loop μ-loop
 add-v c = omega arith
@@ -55,7 +55,7 @@ loop-again : tie.Need-loop-again Inv-loop μ-loop
 loop-again c =
     let l = c .before .before .before in
     let g = l .before .before .args in
-    (omega arith, wrote-more _ _ _ _ _ _ (omega arith) (rd-got _ (c .wide .ok) (c .wide .ensures) ∙ sym (flat-residues (g .n) (g .c .now) (l .loop .t))) (l .loop .inv .1))
+    (omega arith, wrote-more _ _ _ _ _ _ (omega arith) (rd-got _ (c .signed .ok) (c .signed .ensures) ∙ sym (flat-residues (g .n) (g .c .now) (l .loop .t))) (l .loop .inv .1))
 
 same-length : tie.Need-same-length Inv-loop μ-loop
 same-length c = c .before .loop .inv .1 .long
@@ -76,9 +76,9 @@ widen-spec =
     mul-m
     mul-oa
     loop-holds
-    mul-wide
-    shared-slice-read-wide
-    wide-requires
+    mul-signed
+    shared-slice-read-signed
+    signed-requires
     add-v
     mul-v
     slice-set-from-v
