@@ -31,7 +31,7 @@ fn solve(n: usize, a: &[i64], c: &mut [u32], p: &mut [u32])
     ensures { λ _. ⌜ (length (now (c .exit)) ≡ length (now (c .entry))) × CongM n (pos (2 ^ 32)) (entries n (now (a .entry)) ·⟨ n ⟩ residues n (now (c .exit))) δ ⌝ }
 {
     ones(n, c);
-    load(n, a, p);
+    crate::residues::take(n * n, a, 0, p);
     let mut r: usize = 0;
     while r < n {
         settle(n, r, c, p);
@@ -135,20 +135,6 @@ fn ones(n: usize, c: &mut [u32])
     while i < n {
         c[i * n + i] = 1;
         i += 1;
-    }
-}
-
-// The residues of a in p.
-fn load(n: usize, a: &[i64], p: &mut [u32])
-    requires { ⌜ (Lawful n (now a)) × (n * n ≤ length (now p)) ⌝ }
-    ensures { λ _. ⌜ Wrote 0 (λ (t : ℕ). residue (2 ^ 32) (getD (now (a .entry)) t (pos 0))) 0 (n * n) (now (p .entry)) (now (p .exit)) ⌝ }
-{
-    let m = n * n;
-    let mut t: usize = 0;
-    while t < m {
-        let v = numbers::residue(a[t]);
-        p[t] = v;
-        t += 1;
     }
 }
 

@@ -2,9 +2,7 @@
 use mathlib.Core.Path.{_≡_, sym, ap, _∙_, subst}
 use mathlib.Core.List.{List}
 use Prim.Native.Nat.{ℕ, _+_, _*_, _^_, _≤_}
-use native.Mathlib.Nat.{zero-add}
 use native.Mathlib.Omega.{arith}
-use lib.Arith.{digits-lt}
 use lib.IntN.{ℤ, pos, natAbs}
 use lib.ListN.{length, getD, replicate, length-replicate}
 use lib.Pow.{pow-pos}
@@ -19,6 +17,7 @@ use Rattle.tables.specs.Residues.{residues, product32, Takes, Products}
 use Rattle.tables.proofs.Algebra.Matrix.{congM-·}
 use Rattle.tables.proofs.Buffers.Places.{square-small}
 use Rattle.tables.proofs.Buffers.Kernels.{low-flat}
+use Rattle.tables.proofs.Buffers.Residues.{taken}
 
 abbrev zeros : List ℕ
 zeros = replicate 1024 0
@@ -26,11 +25,6 @@ zeros = replicate 1024 0
 -- x holds the residues of block b
 abbrev Taken : ℕ → List ℤ → ℕ → List ℕ → Type 0
 Taken n L b x = Wrote 0 (λ k. residue (2 ^ 32) (getD L (b * (n * n) + k) (pos 0))) 0 (n * n) zeros x
-
-taken-cong : {n : ℕ} (L : List ℤ) (b : ℕ) {x : List ℕ} → Taken n L b x → CongM n (pos (2 ^ 32)) (residues n x) (block n L b)
-taken-cong {n} L b {x} u i j h k =
-    cong-trans (cong-of-eq (pos (2 ^ 32)) (ap pos (sym (ap (λ (m : ℕ). getD x m 0) (zero-add (i * n + j))) ∙ u .inside (i * n + j) (digits-lt h k))))
-    (residue-cong (2 ^ 32) (omega arith) (block n L b i j))
 
 module _ {n e : ℕ} {L : List ℤ} {p q o : ℕ} (r : Remain n e L p q o) where
   takes : (b : ℕ) → Has n L b → Low n (2 ^ 62) (block n L b) → Takes (n * n) L (b * (n * n)) zeros
@@ -76,4 +70,4 @@ module _ {n e : ℕ} {L : List ℤ} {p q o : ℕ} (r : Remain n e L p q o) where
           same i j h k =
               cong-trans (cong-of-eq (pos (2 ^ 32)) (w .there i j h k))
               (cong-trans (residue-cong (2 ^ 32) (omega arith) ((residues n x ·⟨ n ⟩ residues n y) i j))
-              (congM-· n (pos (2 ^ 32)) (taken-cong L p u) (taken-cong L q v) i j h k))
+              (congM-· n (pos (2 ^ 32)) (taken L (p * (n * n)) u) (taken L (q * (n * n)) v) i j h k))

@@ -1,18 +1,31 @@
--- A row of a product of residues, product by product: after k of them z holds the residues of the sums so far.
+-- What a list of residues holds: the numbers it was taken from, modulo 2^32; and a row of a product, product by product: after k of them z holds the
+-- residues of the sums so far.
 use mathlib.Core.Path.{_≡_, refl, sym, ap, _∙_}
 use mathlib.Core.List.{List}
 use Prim.Native.Nat.{ℕ, _+_, _*_, _%_, _^_, _≤_, _<_}
 use native.Mathlib.Nat.{zero-add}
 use native.Mathlib.Omega.{arith}
+use lib.Arith.{digits-lt}
 use lib.IntN.{ℤ, pos, _*ℤ_}
 use lib.ListN.{length, getD, replicate, getD-replicate}
 use Rattle.numbers.specs.Remainder.{residue}
 use Rattle.numbers.proofs.Algebra.Sum.{sum, sum-one}
-use Rattle.numbers.proofs.Remainders.Division.{residue-fold}
+use Rattle.numbers.proofs.Remainders.Congruence.{cong-of-eq, cong-trans}
+use Rattle.numbers.proofs.Remainders.Division.{residue-cong, residue-fold}
+use Rattle.tables.specs.Tables.{CongM}
 use Rattle.tables.specs.Buffer.{RowPut, Wrote}
 use Rattle.tables.specs.Residues.{residues, product32, Folds, Products}
 use Rattle.tables.proofs.Buffers.Wrote.{wrote-is, wrote-over}
 use Rattle.tables.proofs.Buffers.Places.{square-small, row-end}
+
+-- x holds the residues of a table, which is in L from place p on
+pub taken : {n : ℕ} (L : List ℤ) (p : ℕ) {old x : List ℕ} → Wrote 0 (λ q. residue (2 ^ 32) (getD L (p + q) (pos 0))) 0 (n * n) old x
+    → CongM n (pos (2 ^ 32)) (residues n x) (λ i j. getD L (p + (i * n + j)) (pos 0))
+taken {n} L p {x = x} u i j h k =
+    cong-trans (cong-of-eq (pos (2 ^ 32)) (ap pos (sym (ap (λ (m : ℕ). getD x m 0) (zero-add (i * n + j))) ∙ u .inside (i * n + j) (digits-lt h k))))
+    (residue-cong (2 ^ 32) (omega arith) (getD L (p + (i * n + j)) (pos 0)))
+
+-- ---- a row, product by product
 
 abbrev so-far : ℕ → List ℕ → ℕ → List ℕ → ℕ → ℕ → ℕ
 so-far n x i y k j = residue (2 ^ 32) (sum k (λ l. residues n x i l *ℤ residues n y l j))

@@ -13,14 +13,16 @@ use lib.Seq.{getD-set-same, getD-set-other}
 use Rattle.numbers.specs.Remainder.{residue}
 use Rattle.numbers.proofs.Algebra.Sum.{δ, δ-same, δ-other, δ-comm}
 use Rattle.numbers.proofs.Remainders.Congruence.{cong-of-eq, cong-trans}
-use Rattle.numbers.proofs.Remainders.Division.{residue-cong}
 use Rattle.tables.specs.Tables.{Matrix, _·⟨_⟩_, _ᵀ, CongM, entries}
 use Rattle.tables.specs.Buffer.{Low, Put, Wrote}
+use Rattle.tables.specs.Checks.{Lawful}
 use Rattle.tables.specs.Inverting.{Inverted, Spans, Zeros}
-use Rattle.tables.specs.Residues.{residues}
+use Rattle.tables.specs.Residues.{residues, Takes}
 use Rattle.tables.proofs.Algebra.Matrix.{congM-eq, congM-refl, congM-trans, congM-·, ≈-sym}
 use Rattle.tables.proofs.Buffers.Places.{flat, square-small}
 use Rattle.tables.proofs.Buffers.Kernels.{low-≈}
+use Rattle.tables.proofs.Buffers.Residues.{taken}
+use Rattle.tables.proofs.Checking.Heights.{legal-at}
 use Rattle.tables.proofs.Reduction.Units.{X}
 
 -- ---- ones on the diagonal
@@ -79,11 +81,15 @@ diagonal-all e q i j hi hj = cong-of-eq X (q .done j i (omega arith) hi ∙ δ-c
 
 -- ---- the residues of a table
 
-pub loaded : {n : ℕ} (a : List ℤ) {p p′ : List ℕ} → Wrote 0 (λ t. residue (2 ^ 32) (getD a t (pos 0))) 0 (n * n) p p′ → CongM n X (residues n p′ ᵀ) (entries n a ᵀ)
-loaded {n} a {p′ = p′} w i j hi hj =
-    let t : ℕ = j * n + i in
-    cong-trans (cong-of-eq X (ap pos (ap (λ (k : ℕ). getD p′ k 0) (sym (zero-add t)) ∙ w .inside t (digits-lt hj hi))))
-    (residue-cong (2 ^ 32) (omega arith) (getD a t (pos 0)))
+pub load-asks : {n : ℕ} {a : List ℤ} {p : List ℕ} → Lawful n a → n * n ≤ length p → Takes (n * n) a 0 p
+load-asks {n} {a} l h = record {
+  source = omega (arith, l .size);
+  target = h;
+  low = λ q k. omega (arith, legal-at a (l .legal) (0 + q) (omega (arith, l .size)));
+}
+
+pub loaded : {n : ℕ} (a : List ℤ) {p p′ : List ℕ} → Wrote 0 (λ q. residue (2 ^ 32) (getD a (0 + q) (pos 0))) 0 (n * n) p p′ → CongM n X (residues n p′ ᵀ) (entries n a ᵀ)
+loaded {n} a w i j hi hj = cong-trans (taken a 0 w j i hj hi) (cong-of-eq X (ap (λ (k : ℕ). getD a k (pos 0)) (zero-add (j * n + i))))
 
 -- ---- the solution
 

@@ -4,9 +4,10 @@ use Rattle.tables.specs.Tables.{_ᵀ, entries}
 use Rattle.tables.specs.Elimination.{Going}
 use Rattle.tables.specs.Inverting.{Spans}
 use Rattle.tables.specs.Residues.{residues}
+use Rattle.tables.proofs.Buffers.Places.{square-small}
 use Rattle.tables.proofs.Inverses.Turned.{inverse-turned, has-turned}
 use Rattle.tables.proofs.Reduction.Stages.{going-first, found, stuck}
-use Rattle.tables.proofs.Reduction.Ends.{loaded}
+use Rattle.tables.proofs.Reduction.Ends.{load-asks, loaded}
 use native.Mathlib.Omega.{arith}
 use Prim.Native.Nat.{_-_, _^_, _≤_}
 use mathlib.Core.Path.{_≡_, refl, _∙_}
@@ -23,15 +24,18 @@ abbrev μ-loop : tie.MeasureT-loop
 ones-requires : tie.Need-ones-requires Inv-loop μ-loop
 ones-requires c κs = let s = c .before .before .before .pre in (s .1 .0 .order, (s .1 .0 .long-c, s .1 .1))
 
-load-requires : tie.Need-load-requires Inv-loop μ-loop
-load-requires c κs = let s = c .before .before .before .before .before .before .before .pre in (s .0 .0, s .1 .0 .long-p)
+mul-take : tie.Need-mul-take Inv-loop μ-loop
+mul-take c = omega (arith, square-small (c .before .before .before .before .before .before .pre .1 .0 .order))
+
+take-requires : tie.Need-take-requires Inv-loop μ-loop
+take-requires c κs = let s = c .before .before .before .before .before .before .before .pre in load-asks (s .0 .0) (s .1 .0 .long-p)
 
 loop-holds : tie.Need-loop-holds Inv-loop μ-loop
 loop-holds c =
     let s = c .before .before .before .before .before .before .before .before .before .before in
     let z = s .pre .1 .0 in
     let e = c .before .before .before .before .before .before .ones .ensures in
-    let w = c .before .before .load .ensures in (
+    let w = c .before .before .take .ensures in (
       omega arith,
       (
         refl,
@@ -69,7 +73,7 @@ same-length : tie.Need-same-length Inv-loop μ-loop
 same-length c = c .before .loop .inv .1 .0 ∙ c .before .before .before .before .before .before .before .before .ones .ensures .0
 
 same-length-2 : tie.Need-same-length-2 Inv-loop μ-loop
-same-length-2 c = c .before .loop .inv .1 .1 .0 ∙ c .before .before .before .before .load .ensures .long
+same-length-2 c = c .before .loop .inv .1 .1 .0 ∙ c .before .before .before .before .take .ensures .long
 
 returns : tie.Need-returns Inv-loop μ-loop
 returns c =
@@ -85,7 +89,8 @@ solve-spec =
     Inv-loop
     μ-loop
     ones-requires
-    load-requires
+    mul-take
+    take-requires
     loop-holds
     settle-requires
     add-r
