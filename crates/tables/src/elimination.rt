@@ -21,7 +21,7 @@ pub fn inverse(n: usize, a: &[i64], buf: &mut [i64], o: usize)
     let mut c = [0u32; 1024];
     let mut p = [0u32; 1024];
     solve(n, a, &mut c, &mut p);
-    widen(n, &c, buf, o);
+    crate::residues::widen(n * n, &c, buf, o * (n * n));
 }
 
 // From zeros in c: an inverse of a modulo 2^32, with p for work.
@@ -135,21 +135,6 @@ fn ones(n: usize, c: &mut [u32])
     while i < n {
         c[i * n + i] = 1;
         i += 1;
-    }
-}
-
-// Block o becomes the table of residues in c.
-fn widen(n: usize, c: &[u32], buf: &mut [i64], o: usize)
-    requires { ⌜ (n ≤ 32) × ((n * n ≤ length (now c)) × (Has n (now buf) o)) ⌝ }
-    ensures { λ _. ⌜ (Put n (residues n (now (c .entry))) o (now (buf .entry)) (now (buf .exit))) × Low n (2 ^ 32) (residues n (now (c .entry))) ⌝ }
-{
-    let m = n * n;
-    let oa = o * m;
-    let mut t: usize = 0;
-    while t < m {
-        let v = numbers::signed(c[t]);
-        buf[oa + t] = v;
-        t += 1;
     }
 }
 

@@ -56,10 +56,10 @@ fn fold_rows(n: usize, x: &[u32], i: usize, y: &[u32], z: &mut [u32])
     }
 }
 
-// The n residues of z, from place o of the buffer on.
-fn widen(n: usize, z: &[u32], buf: &mut [i64], o: usize)
+// The n residues of z, which are below 2^32, from place o of the buffer on.
+pub fn widen(n: usize, z: &[u32], buf: &mut [i64], o: usize)
     requires { ⌜ (n ≤ length (now z)) × (o + n ≤ length (now buf)) ⌝ }
-    ensures { λ _. ⌜ Wrote (pos 0) (λ (j : ℕ). pos (getD (now (z .entry)) j 0)) o n (now (buf .entry)) (now (buf .exit)) ⌝ }
+    ensures { λ _. ⌜ (Wrote (pos 0) (λ (j : ℕ). pos (getD (now (z .entry)) j 0)) o n (now (buf .entry)) (now (buf .exit))) × ((j : ℕ) → j < n → getD (now (z .entry)) j 0 < 2 ^ 32) ⌝ }
 {
     let mut j: usize = 0;
     while j < n {

@@ -14,12 +14,13 @@ use Rattle.numbers.specs.Remainder.{residue}
 use Rattle.numbers.proofs.Algebra.Sum.{δ, δ-same, δ-other, δ-comm}
 use Rattle.numbers.proofs.Remainders.Congruence.{cong-of-eq, cong-trans}
 use Rattle.tables.specs.Tables.{Matrix, _·⟨_⟩_, _ᵀ, CongM, entries}
-use Rattle.tables.specs.Buffer.{Low, Put, Wrote}
+use Rattle.tables.specs.Buffer.{Put, Wrote}
 use Rattle.tables.specs.Checks.{Lawful}
 use Rattle.tables.specs.Inverting.{Inverted, Spans, Zeros}
 use Rattle.tables.specs.Residues.{residues, Takes}
 use Rattle.tables.proofs.Algebra.Matrix.{congM-eq, congM-refl, congM-trans, congM-·, ≈-sym}
-use Rattle.tables.proofs.Buffers.Places.{flat, square-small}
+use Rattle.tables.proofs.Buffers.Wrote.{wrote-is}
+use Rattle.tables.proofs.Buffers.Places.{square-small, put-of}
 use Rattle.tables.proofs.Buffers.Kernels.{low-≈}
 use Rattle.tables.proofs.Buffers.Residues.{taken}
 use Rattle.tables.proofs.Checking.Heights.{legal-at}
@@ -93,17 +94,14 @@ loaded {n} a w i j hi hj = cong-trans (taken a 0 w j i hj hi) (cong-of-eq X (ap 
 
 -- ---- the solution
 
-pub flat-residues : (n : ℕ) (c : List ℕ) (t : ℕ) → flat n (residues n c) t ≡ pos (getD c t 0)
-flat-residues n c t = ap (λ (m : ℕ). pos (getD c m 0)) (div-add-mod' t n)
-
-pub low-residues : {n : ℕ} (c : List ℕ) → ((k : ℕ) → k < n * n → getD c k 0 < 2 ^ 32) → Low n (2 ^ 32) (residues n c)
-low-residues {n} c f = record { low = λ i j h k. let l = f (i * n + j) (digits-lt h k) in omega arith }
-
 pub inverted : {n o : ℕ} (A : Matrix) (c : List ℕ) {old new : List ℤ} → CongM n X (A ·⟨ n ⟩ residues n c) δ
-    → Put n (residues n c) o old new → Low n (2 ^ 32) (residues n c) → Inverted n A o old new
-inverted {n} A c e p l = record {
+    → Wrote (pos 0) (λ t. pos (getD c t 0)) (o * (n * n)) (n * n) old new → ((t : ℕ) → t < n * n → getD c t 0 < 2 ^ 32) → Inverted n A o old new
+inverted {n} {o} A c {old} {new} e w l = record {
   long = p .long;
   right = congM-trans n X (congM-· n X (congM-refl n X A) (congM-eq n X (p .there))) e;
-  low = low-≈ (≈-sym (p .there)) l;
+  low = low-≈ (≈-sym (p .there)) (record { low = λ i j h k. let b = l (i * n + j) (digits-lt h k) in omega arith });
   rest = p .rest;
 }
+  where
+    p : Put n (residues n c) o old new
+    p = put-of n o (wrote-is w (λ t h. sym (ap (λ (m : ℕ). pos (getD c m 0)) (div-add-mod' t n))))

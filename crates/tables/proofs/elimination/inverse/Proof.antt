@@ -1,4 +1,5 @@
 use Rattle.tables.specs.Tables.{entries}
+use Rattle.tables.proofs.Buffers.Places.{square-small}
 use Rattle.tables.proofs.Reduction.Ends.{zeros, fresh, inverted}
 use native.Mathlib.Omega.{arith}
 use borrow.Author.Needs.{needs}
@@ -16,13 +17,22 @@ solve-requires c κs =
     let s = c .before .before .pre in
     ((s .0, s .1 .0), (fresh (s .0 .order .upto), zeros 1024))
 
+mul-widen : tie.Need-mul-widen
+mul-widen c = let s = c .before .before .before .before .before .pre in omega (arith, square-small (s .0 .order .upto), s .1 .1)
+
 slice-aggregate-widen : tie.Need-slice-aggregate-widen
 slice-aggregate-widen c = omega arith
+
+mul-widen-2 : tie.Need-mul-widen-2
+mul-widen-2 c = let s = c .before .before .before .before .before .before .before .pre in omega (arith, square-small (s .0 .order .upto), s .1 .1)
+
+mul-widen-3 : tie.Need-mul-widen-3
+mul-widen-3 c = let s = c .before .before .before .before .before .before .before .pre in omega (arith, square-small (s .0 .order .upto), s .1 .1)
 
 widen-requires : tie.Need-widen-requires
 widen-requires c κs =
     let s = c .before .before .before .before .before .before .before .pre in
-    (s .0 .order .upto, (omega (arith, fresh (s .0 .order .upto) .long-c, c .before .before .before .before .solve .ensures .0), s .1 .1))
+    (omega (arith, fresh (s .0 .order .upto) .long-c, c .before .before .before .before .solve .ensures .0), s .1 .1)
 
 same-length : tie.Need-same-length
 same-length c = search needs
@@ -41,7 +51,10 @@ inverse-spec =
     slice-aggregate-solve
     slice-aggregate-solve-2
     solve-requires
+    mul-widen
     slice-aggregate-widen
+    mul-widen-2
+    mul-widen-3
     widen-requires
     same-length
     returns)

@@ -42,7 +42,7 @@ returns c =
     let w = c .before in
     let f = w .before .before .before .before in
     let p = f .before .before .before .before .pre in
-    row-done (p .0) (p .1) (f .fold-rows .ensures) (w .widen .ensures)
+    row-done (p .0) (p .1) (f .fold-rows .ensures) (w .widen .ensures .0)
 
 pub product-row-spec : {M : Type 1} → statement M
 product-row-spec =

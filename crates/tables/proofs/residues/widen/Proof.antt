@@ -54,7 +54,7 @@ same-length c = c .before .loop .inv .1 .long
 returns : tie.Need-returns Inv-loop μ-loop
 returns c =
     let e : c .before .loop .j ≡ c .before .before .before .args .n = omega arith in
-    rw e at (c .before .loop .inv .1)
+    (rw e at (c .before .loop .inv .1), λ k h. omega (arith, c .before .before .shared-slice-known .given k))
 
 pub widen-spec : {M : Type 1} → statement M
 widen-spec =
