@@ -1,13 +1,12 @@
 // The inverse modulo 2^32, by one elimination with odd pivots: the rows of the identity and of the table undergo the same operations, in residues,
 // until the table is the identity.
 ghost use mathlib.Core.Path.{_≡_};
-ghost use Prim.Native.Nat.{ℕ, _+_, _*_, _%_, _^_, _≤_, _<_};
+ghost use Prim.Native.Nat.{_*_, _^_, _≤_, _<_};
 ghost use lib.IntN.{pos, negℤ, _-ℤ_, _*ℤ_};
-ghost use lib.ListN.{length, getD};
+ghost use lib.ListN.{length};
 ghost use Rattle.numbers.specs.Numbers.{Cong, δ};
-ghost use Rattle.numbers.specs.Remainder.{residue};
 ghost use Rattle.tables.specs.Tables.{_·⟨_⟩_, _ᵀ, CongM, entries, HasInverseMod};
-ghost use Rattle.tables.specs.Buffer.{Low, Has, Put, Wrote};
+ghost use Rattle.tables.specs.Buffer.{Has};
 ghost use Rattle.tables.specs.Checks.{Lawful};
 ghost use Rattle.tables.specs.Elimination.{Advances, None, Pivot};
 ghost use Rattle.tables.specs.Inverting.{Inverted, Spans, Zeros, RowStep, Ready, Sweep};

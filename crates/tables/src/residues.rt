@@ -1,13 +1,10 @@
 // Tables of residues modulo 2^32, in 32 bits each, so that the inner loops of products run on several entries at a time.
-ghost use mathlib.Core.Path.{_≡_};
 ghost use Prim.Native.Nat.{ℕ, _+_, _*_, _%_, _^_, _≤_, _<_};
 ghost use lib.ListN.{length, getD};
-ghost use lib.IntN.{ℤ, pos, natAbs, _*ℤ_};
-ghost use Rattle.numbers.specs.Numbers.{sum};
-ghost use Rattle.numbers.specs.Limits.{IsOrder};
+ghost use lib.IntN.{pos};
 ghost use Rattle.numbers.specs.Remainder.{residue};
 ghost use Rattle.tables.specs.Tables.{_·⟨_⟩_};
-ghost use Rattle.tables.specs.Buffer.{Has, Put, RowPut, Wrote};
+ghost use Rattle.tables.specs.Buffer.{Put, RowPut, Wrote};
 ghost use Rattle.tables.specs.Residues.{Takes, Folds, Products, residues, product32};
 
 // The residues of m numbers from place p on.

@@ -1,9 +1,9 @@
 -- One column tells a no. Digit by digit at X = 2^32 the whole table would be lifted linearly: A·C = I - X^m·T with 5·|C| ≤ 3·X^m. The program
 -- follows the first column of T alone. Where a whole inverse exists, T is 0 once X^m is large enough, and n digits are.
-use mathlib.Core.Path.{_≡_, refl, sym, ap, subst, _∙_}
+use mathlib.Core.Path.{_≡_, sym, ap, subst, _∙_}
 use mathlib.Core.Bool.{Bool, true, false, false≢true}
 use mathlib.Core.List.{List}
-use Prim.Native.Nat.{ℕ, suc, _+_, _*_, _-_, _^_, _≤_, _<_}
+use Prim.Native.Nat.{ℕ, _+_, _*_, _-_, _^_, _≤_}
 use native.Mathlib.Nat.{mul-le-mul, mul-le-mul-left, pow-zero, pow-suc, one-mul}
 use native.Mathlib.Numerals.{add-one}
 use native.Mathlib.Omega.{arith}
@@ -11,11 +11,10 @@ use lib.IntN.{ℤ, pos, natAbs}
 use lib.ListN.{length}
 use Rattle.numbers.proofs.Algebra.Sum.{δ}
 use Rattle.numbers.proofs.Remainders.Remainder.{rem-is}
-use Rattle.tables.specs.Tables.{Matrix, Below, _≈⟨_⟩_, _·⟨_⟩_, _⊞_, _⊟_, _⊙_, block, entries, height, HasWholeInverse}
+use Rattle.tables.specs.Tables.{Matrix, Below, _≈⟨_⟩_, _·⟨_⟩_, _⊞_, _⊟_, _⊙_, block, entries, height}
 use Rattle.tables.specs.Checks.{Lawful}
 use Rattle.tables.specs.Columns.{ColumnPut, ColumnZero, ToCopy}
-use Rattle.tables.proofs.Algebra.Matrix.{≈-refl, ≈-sym, ≈-trans, ·-cong, congM-eq, congM-trans}
-use Rattle.tables.proofs.Buffers.Kernels.{low-≈}
+use Rattle.tables.proofs.Algebra.Matrix.{≈-refl, ≈-sym, ≈-trans}
 use Rattle.tables.proofs.Checking.Heights.{height-at, height-one, legal-height}
 use Rattle.tables.proofs.Inverses.Residue.{residue-zero, bound-power}
 use Rattle.lifting.specs.Lifting.{IsStart, IsDigit}

@@ -1,6 +1,6 @@
 -- The numbers that verdict and inverse give back, in their order, with their two values.
 use mathlib.Core.Path.{_≡_, refl, sym, ap, subst}
-use mathlib.Core.Logic.{_≢_, _⊎_, inl, inr, ⊎-elim}
+use mathlib.Core.Logic.{_≢_, inl, inr, ⊎-elim}
 use mathlib.Core.List.{List, [], _∷_}
 use Prim.Native.Nat.{ℕ, _*_, _^_}
 use native.Mathlib.Omega.{arith}
@@ -187,28 +187,24 @@ inverse-narrow {n} {A} {L} {o} {E} p z i j h k =
     (record { inverse = entries n E; right = p .written z .right; passes = λ g. f (g i j h k) })
 
 -- what inverse gives after each case of the verdict's answer
-module _ {n : ℕ} {A : List ℤ} {r : Ruling} (says : VerdictGives n A (outcomeOf r)) where
-  pub after-yes : {e l : ℕ} → r ≡ Yes e l → Lawful n A
-  after-yes {e} {l} q = let v : VerdictGives n A (answer 0 e l) = subst (λ (r : Ruling). VerdictGives n A (outcomeOf r)) q says in passed n A (v .number)
+module _ {n : ℕ} {A : List ℤ} {r : Ruling} (says : VerdictGives n A (outcomeOf r)) {L : List ℤ} (size : length L ≡ n * n) where
+  pub after-refused : {k : ℕ} → r ≡ Refused k → InverseGives n A L (answer k 0 0) L
+  after-refused {k} q =
+      let v : VerdictGives n A (answer k 0 0) = subst (λ (r : Ruling). VerdictGives n A (outcomeOf r)) q says in
+      inverse-as-verdict size (λ z. zeros-untold (v .values) (subst Told (sym z) after-0)) v
 
-  module _ {L : List ℤ} (size : length L ≡ n * n) where
-    pub after-refused : {k : ℕ} → r ≡ Refused k → InverseGives n A L (answer k 0 0) L
-    after-refused {k} q =
-        let v : VerdictGives n A (answer k 0 0) = subst (λ (r : Ruling). VerdictGives n A (outcomeOf r)) q says in
-        inverse-as-verdict size (λ z. zeros-untold (v .values) (subst Told (sym z) after-0)) v
+  pub after-no : {e l : ℕ} → r ≡ No e l → InverseGives n A L (answer 7 e l) L
+  after-no q = inverse-as-verdict size (λ z. omega arith) (subst (λ (r : Ruling). VerdictGives n A (outcomeOf r)) q says)
 
-    pub after-no : {e l : ℕ} → r ≡ No e l → InverseGives n A L (answer 7 e l) L
-    after-no q = inverse-as-verdict size (λ z. omega arith) (subst (λ (r : Ruling). VerdictGives n A (outcomeOf r)) q says)
+  pub after-wide : {e l : ℕ} → r ≡ Yes e l → NoneNarrow n A → InverseGives n A L (answer 8 e l) L
+  after-wide {e} {l} q f =
+      let v : VerdictGives n A (answer 0 e l) = subst (λ (r : Ruling). VerdictGives n A (outcomeOf r)) q says in
+      let w = v .whole refl in
+      let p = v .values .told after-0 in
+      inverse-wide (passed n A (v .number)) (p .0) (p .1) size (record { inverse = w .inverse; right = w .right; passes = f .none (w .inverse) (w .right) })
 
-    pub after-wide : {e l : ℕ} → r ≡ Yes e l → NoneNarrow n A → InverseGives n A L (answer 8 e l) L
-    after-wide {e} {l} q f =
-        let v : VerdictGives n A (answer 0 e l) = subst (λ (r : Ruling). VerdictGives n A (outcomeOf r)) q says in
-        let w = v .whole refl in
-        let p = v .values .told after-0 in
-        inverse-wide (passed n A (v .number)) (p .0) (p .1) size (record { inverse = w .inverse; right = w .right; passes = f .none (w .inverse) (w .right) })
-
-    pub after-done : {e l : ℕ} {E : List ℤ} → r ≡ Yes e l → Written n A E → InverseGives n A L (answer 0 e l) E
-    after-done {e} {l} q w =
-        let v : VerdictGives n A (answer 0 e l) = subst (λ (r : Ruling). VerdictGives n A (outcomeOf r)) q says in
-        let p = v .values .told after-0 in
-        inverse-done (passed n A (v .number)) (p .0) (p .1) size w
+  pub after-done : {e l : ℕ} {E : List ℤ} → r ≡ Yes e l → Written n A E → InverseGives n A L (answer 0 e l) E
+  after-done {e} {l} q w =
+      let v : VerdictGives n A (answer 0 e l) = subst (λ (r : Ruling). VerdictGives n A (outcomeOf r)) q says in
+      let p = v .values .told after-0 in
+      inverse-done (passed n A (v .number)) (p .0) (p .1) size w

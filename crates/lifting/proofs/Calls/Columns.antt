@@ -1,9 +1,9 @@
 -- The first column of a digit, kernel by kernel: it needs no other column of the residue.
-use mathlib.Core.Path.{_≡_, sym, ap, ap₂, _∙_}
+use mathlib.Core.Path.{sym, ap, ap₂, _∙_}
 use mathlib.Core.List.{List}
-use Prim.Native.Nat.{ℕ, _^_, _≤_, _<_}
+use Prim.Native.Nat.{ℕ, _^_, _≤_}
 use native.Mathlib.Omega.{arith}
-use lib.IntN.{ℤ, pos, natAbs, _-ℤ_, _*ℤ_}
+use lib.IntN.{ℤ, natAbs, _-ℤ_, _*ℤ_}
 use lib.Pow.{pow-pos, pow-mono}
 use lib.Signed.{shrZ}
 use Rattle.numbers.specs.Remainder.{rem}
@@ -13,7 +13,7 @@ use Rattle.tables.specs.Tables.{Matrix, _·⟨_⟩_, block, entries}
 use Rattle.tables.specs.Buffer.{shrunk}
 use Rattle.tables.specs.Columns.{ColumnPut, ToRemain, ToShrink}
 use Rattle.tables.proofs.Algebra.Matrix.{≈-trans}
-use Rattle.lifting.specs.Steps.{Setting, SameColumn, digitOf, nextResidue, ToColumnDigit, ColumnDigited}
+use Rattle.lifting.specs.Steps.{Setting, SameColumn, digitOf, ToColumnDigit, ColumnDigited}
 use Rattle.lifting.proofs.Calls.Sizes.{low-entries}
 
 -- the first column of a product needs that of the second factor alone

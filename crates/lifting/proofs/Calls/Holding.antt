@@ -8,7 +8,7 @@ use native.Mathlib.Nat.{mul-le-mul, mul-le-mul-right, le-refl}
 use lib.Pow.{pow-mono}
 use lib.IntN.{ℤ, pos}
 use lib.ListN.{length}
-use Rattle.numbers.specs.Numbers.{Enough, IsNeed}
+use Rattle.numbers.specs.Numbers.{Enough}
 use Rattle.tables.specs.Tables.{Matrix, _≈⟨_⟩_, block, entries, height, HasInverseMod}
 use Rattle.tables.specs.Buffer.{Low}
 use Rattle.tables.specs.Checks.{Lawful}
@@ -30,9 +30,6 @@ enough-32 {n} {A} law = record {
   from = omega arith;
   reaches = let b : 4 * (n * n) ≤ 2 ^ 12 = omega (arith, square-small (law .order .upto)) in mul-le-mul {n₂ = 2 ^ 12} {m₂ = 2 ^ 20} b (legal-height A (law .legal));
 }
-
-pub need-upto : {n e : ℕ} {A : List ℤ} → Lawful n A → IsNeed n (height A) e → e ≤ 32
-need-upto law need = need .least 32 (enough-32 law)
 
 pub setting : {n e : ℕ} {A : List ℤ} → Lawful n A → Enough n (height A) e → e ≤ 32 → Setting n e A
 setting law enough upto = record { lawful = law; from = omega (arith, enough .from); upto = upto }

@@ -1,5 +1,5 @@
 -- What lift's last steps need, each as a law whose arguments the goal shows.
-use mathlib.Core.Path.{_≡_, refl, sym, subst, _∙_}
+use mathlib.Core.Path.{_≡_, sym, subst, _∙_}
 use mathlib.Core.List.{List}
 use Prim.Native.Nat.{ℕ, _+_, _*_, _^_, _≤_, _<_}
 use native.Mathlib.Nat.{mul-le-mul-right}
@@ -10,7 +10,7 @@ use lib.ListN.{length}
 use Rattle.tables.specs.Tables.{Matrix, _≈⟨_⟩_, entries, block, HasInverseMod}
 use Rattle.tables.specs.Buffer.{Has}
 use Rattle.tables.proofs.Algebra.Matrix.{≈-refl, ≈-sym}
-use Rattle.lifting.specs.Lifting.{IsStart, Upto, LiftGives}
+use Rattle.lifting.specs.Lifting.{Upto, LiftGives}
 use Rattle.lifting.specs.Steps.{Ready, ToStart, ToStep, Stepped}
 use Rattle.lifting.proofs.Expansions.Rules.{step-resp}
 use Rattle.lifting.proofs.Expansions.Upto.{upto-more, upto-resp}

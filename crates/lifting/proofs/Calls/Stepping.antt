@@ -1,5 +1,5 @@
 -- A digit, a step and the start, kernel by kernel: what each kernel is asked, and what they leave together.
-use mathlib.Core.Path.{_≡_, sym, ap, _∙_}
+use mathlib.Core.Path.{sym, ap, _∙_}
 use mathlib.Core.Logic.{_≢_}
 use mathlib.Core.List.{List}
 use Prim.Native.Nat.{ℕ, _^_}
@@ -18,8 +18,8 @@ use Rattle.tables.specs.Buffer.{Low, Has, Product, Remain, Balance, Shrink, shr
 use Rattle.tables.specs.Inverting.{Inverted}
 use Rattle.tables.proofs.Buffers.Kernels.{low-≈}
 use Rattle.tables.proofs.Algebra.Matrix.{≈-refl, ≈-sym, ≈-trans, ·-cong, ·-idʳ, ⊟-cong, congM-eq, congM-trans}
-use Rattle.lifting.specs.Lifting.{IsStart, IsDigit}
-use Rattle.lifting.specs.Steps.{Setting, Stage, ToStep, Stepped, ToDigit, Digited, ToBase, ToStart, Started}
+use Rattle.lifting.specs.Lifting.{IsDigit}
+use Rattle.lifting.specs.Steps.{Setting, ToStep, Stepped, ToDigit, Digited, ToBase, ToStart, Started}
 use Rattle.lifting.proofs.Calls.Sizes.{low-more, low-rems, low-entries, product-room, product-asks}
 use Rattle.lifting.proofs.Expansions.Bound.{δ-size}
 use Rattle.lifting.proofs.Expansions.Rules.{rems, digit-resp, digit-exists, digit-start}

@@ -2,7 +2,7 @@
 use mathlib.Core.Path.{_≡_, ap, _∙_}
 use Prim.Native.Nat.{ℕ, _+_, _-_, _*_, _^_, _≤_}
 use native.Mathlib.Omega.{arith}
-use lib.IntN.{pos, _-ℤ_, _*ℤ_}
+use lib.IntN.{pos, _-ℤ_}
 use lib.Pow.{pow-add}
 use Rattle.numbers.proofs.Algebra.RingSolver.{ring, #_, _⊖_, _⊗_, _≐_}
 use Rattle.numbers.proofs.Remainders.Congruence.{Cong}

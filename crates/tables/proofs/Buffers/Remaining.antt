@@ -1,17 +1,17 @@
 -- The remainder of a product by 2^e, kernel by kernel: residues modulo 2^32 determine it, for 2^e divides 2^32.
-use mathlib.Core.Path.{_≡_, sym, ap, _∙_, subst}
+use mathlib.Core.Path.{_∙_}
 use mathlib.Core.List.{List}
-use Prim.Native.Nat.{ℕ, _+_, _*_, _^_, _≤_}
+use Prim.Native.Nat.{ℕ, _+_, _*_, _^_}
 use native.Mathlib.Omega.{arith}
-use lib.IntN.{ℤ, pos, natAbs}
-use lib.ListN.{length, getD, replicate, length-replicate}
+use lib.IntN.{ℤ, pos}
+use lib.ListN.{getD, replicate, length-replicate}
 use lib.Pow.{pow-pos}
 use Rattle.numbers.specs.Remainder.{residue, rem}
-use Rattle.numbers.proofs.Remainders.Congruence.{Cong, cong-of-eq, cong-trans, cong-down}
+use Rattle.numbers.proofs.Remainders.Congruence.{cong-of-eq, cong-trans, cong-down}
 use Rattle.numbers.proofs.Remainders.Division.{residue-below, residue-cong}
 use Rattle.numbers.proofs.Remainders.Remainder.{rem-same}
 use Rattle.numbers.proofs.Remainders.Powers.{power-divides}
-use Rattle.tables.specs.Tables.{Matrix, _·⟨_⟩_, CongM, block}
+use Rattle.tables.specs.Tables.{_·⟨_⟩_, CongM, block}
 use Rattle.tables.specs.Buffer.{Low, Has, Remain, Balance, Put, Wrote}
 use Rattle.tables.specs.Residues.{residues, product32, Takes, Products}
 use Rattle.tables.proofs.Algebra.Matrix.{congM-·}

@@ -1,6 +1,6 @@
 -- What a list of residues holds: the numbers it was taken from, modulo 2^32; and a row of a product, product by product: after k of them z holds the
 -- residues of the sums so far.
-use mathlib.Core.Path.{_≡_, refl, sym, ap, _∙_}
+use mathlib.Core.Path.{refl, sym, ap, _∙_}
 use mathlib.Core.List.{List}
 use Prim.Native.Nat.{ℕ, _+_, _*_, _%_, _^_, _≤_, _<_}
 use native.Mathlib.Nat.{zero-add}

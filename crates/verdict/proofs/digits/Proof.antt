@@ -3,8 +3,7 @@ use Rattle.lifting.proofs.Calls.Holding.{in-buffer, to-base}
 use Rattle.numbers.proofs.Answers.Says.{say-yes, say-no}
 use borrow.Author.Tests.{not-true, not-false}
 use native.Mathlib.Omega.{arith}
-use Prim.Native.Nat.{ℕ, _+_, _*_, _-_, _≤_, _<_}
-use mathlib.Core.Path.{_≡_, refl, sym, ap, _∙_}
+use mathlib.Core.Path.{_∙_}
 use borrow.Author.Needs.{needs}
 use Rattle.verdict.proofs.digits.Statement.{statement}
 use Rattle.verdict.proofs.digits.Tie as tie

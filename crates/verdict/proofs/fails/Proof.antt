@@ -1,10 +1,8 @@
-use borrow.Author.Needs.{needs}
-use borrow.Author.Tests.{not-true, not-false}
 use Rattle.lifting.proofs.Calls.Holding.{in-buffer}
 use Rattle.verdict.proofs.Column.{Linear, copy-asks, copied-start, copied-column, copied-fails, linear-first, linear-more, digit-asks, fails-not, fails-so}
 use native.Mathlib.Omega.{arith}
-use Prim.Native.Nat.{ℕ, _+_, _*_, _-_, _≤_, _<_}
-use mathlib.Core.Path.{_≡_, refl, sym, ap, _∙_}
+use Prim.Native.Nat.{_-_, _≤_}
+use mathlib.Core.Path.{sym, _∙_}
 use Rattle.verdict.proofs.fails.Statement.{statement}
 use Rattle.verdict.proofs.fails.Tie as tie
 

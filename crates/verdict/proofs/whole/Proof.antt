@@ -5,12 +5,11 @@ use Rattle.tables.proofs.Algebra.Matrix.{≈-sym}
 use Rattle.tables.proofs.Inverses.Laws.{whole-mod}
 use Rattle.numbers.proofs.Answers.Says.{say-yes, say-no}
 use lib.ListN.{length}
-use borrow.Author.Needs.{needs}
 use borrow.Author.Tests.{not-true, not-false}
 use native.Mathlib.Numerals.{add-one}
 use native.Mathlib.Omega.{arith}
-use Prim.Native.Nat.{ℕ, _+_, _*_, _-_, _≤_, _<_}
-use mathlib.Core.Path.{_≡_, refl, sym, ap, _∙_}
+use Prim.Native.Nat.{_+_, _-_, _≤_}
+use mathlib.Core.Path.{_≡_, refl, sym, _∙_}
 use Rattle.verdict.proofs.whole.Statement.{statement}
 use Rattle.verdict.proofs.whole.Tie as tie
 

@@ -1,7 +1,7 @@
 use mathlib.Core.Path.{_≡_, _∙_}
 use Prim.Native.Nat.{_+_, _*_, _-_, _^_, _≤_}
 use native.Mathlib.Omega.{arith}
-use lib.IntN.{ℤ, pos, _+ℤ_, _*ℤ_}
+use lib.IntN.{pos, _+ℤ_, _*ℤ_}
 use lib.ListN.{getD}
 use Rattle.numbers.proofs.Machine.{rd, rd-ok, rd-got}
 use Rattle.tables.specs.Tables.{block}

@@ -6,8 +6,8 @@ use Rattle.numbers.proofs.Machine.{rd-got}
 use Rattle.numbers.proofs.Algebra.Sum.{δ}
 use Rattle.tables.proofs.Buffers.Places.{square-small, row-end}
 use native.Mathlib.Omega.{arith}
-use Prim.Native.Nat.{ℕ, _+_, _*_, _-_, _^_, _≤_, _<_}
-use mathlib.Core.Path.{_≡_, refl, sym, ap, _∙_}
+use Prim.Native.Nat.{_+_, _*_, _-_, _≤_}
+use mathlib.Core.Path.{_≡_}
 use Rattle.tables.proofs.blocks.identity_row.Statement.{statement}
 use Rattle.tables.proofs.blocks.identity_row.Tie as tie
 

@@ -2,8 +2,7 @@ use Rattle.tables.specs.Tables.{_·⟨_⟩_, block}
 use Rattle.tables.proofs.Buffers.Places.{Rows, rows-none, rows-more, rows-put, rows-rest}
 use Rattle.tables.proofs.Buffers.Kernels.{product-kept, product-same}
 use native.Mathlib.Omega.{arith}
-use Prim.Native.Nat.{ℕ, _+_, _*_, _-_, _≤_, _<_}
-use mathlib.Core.Path.{_≡_, refl, sym, ap, _∙_}
+use Prim.Native.Nat.{_-_}
 use Rattle.tables.proofs.blocks.product.Statement.{statement}
 use Rattle.tables.proofs.blocks.product.Tie as tie
 

@@ -6,8 +6,8 @@ use Rattle.tables.specs.Tables.{_·⟨_⟩_, block}
 use Rattle.tables.proofs.Buffers.Places.{square-small, row-end, row-rest}
 use Rattle.tables.proofs.Buffers.Kernels.{product-dot, product-kept, product-same}
 use native.Mathlib.Omega.{arith}
-use Prim.Native.Nat.{ℕ, _+_, _*_, _-_, _^_, _≤_, _<_}
-use mathlib.Core.Path.{_≡_, refl, sym, ap, _∙_}
+use Prim.Native.Nat.{_+_, _*_, _-_, _≤_}
+use mathlib.Core.Path.{_≡_, _∙_}
 use Rattle.tables.proofs.blocks.product_row.Statement.{statement}
 use Rattle.tables.proofs.blocks.product_row.Tie as tie
 

@@ -1,8 +1,6 @@
 use Rattle.tables.proofs.Buffers.Places.{square-small}
 use Rattle.tables.proofs.Buffers.Remaining.{remain-1, remain-2, remain-3, remain-4, remain-done}
 use native.Mathlib.Omega.{arith}
-use Prim.Native.Nat.{ℕ, _+_, _*_, _-_, _≤_, _<_}
-use mathlib.Core.Path.{_≡_, refl, sym, ap, _∙_}
 use borrow.Author.Needs.{needs}
 use Rattle.tables.proofs.blocks.remain.Statement.{statement}
 use Rattle.tables.proofs.blocks.remain.Tie as tie

@@ -1,10 +1,8 @@
 use Rattle.tables.specs.Buffer.{shrunk}
-use lib.IntN.{ℤ, natAbs}
 use Rattle.tables.proofs.Buffers.Places.{Rows, rows-none, rows-more, rows-put, rows-rest, rows-left}
 use Rattle.tables.proofs.Buffers.Kernels.{shrink-kept, shrink-same}
 use native.Mathlib.Omega.{arith}
-use Prim.Native.Nat.{ℕ, _+_, _*_, _-_, _≤_, _<_}
-use mathlib.Core.Path.{_≡_, refl, sym, ap, _∙_}
+use Prim.Native.Nat.{_-_}
 use Rattle.tables.proofs.blocks.shrink.Statement.{statement}
 use Rattle.tables.proofs.blocks.shrink.Tie as tie
 

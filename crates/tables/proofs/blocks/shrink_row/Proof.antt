@@ -9,8 +9,8 @@ use Rattle.tables.proofs.Buffers.Places.{square-small, row-end, row-res
 use Rattle.tables.proofs.Buffers.Kernels.{at-zero, shrink-dot, shrink-room, shrink-kept}
 use Rattle.tables.proofs.Algebra.Matrix.{·-cong}
 use native.Mathlib.Omega.{arith}
-use Prim.Native.Nat.{ℕ, _+_, _*_, _-_, _^_, _≤_, _<_}
-use mathlib.Core.Path.{_≡_, refl, sym, ap, _∙_}
+use Prim.Native.Nat.{ℕ, _+_, _*_, _-_, _≤_}
+use mathlib.Core.Path.{_≡_, ap, _∙_}
 use Rattle.tables.proofs.blocks.shrink_row.Statement.{statement}
 use Rattle.tables.proofs.blocks.shrink_row.Tie as tie
 

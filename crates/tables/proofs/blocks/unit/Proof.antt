@@ -1,5 +1,5 @@
 use mathlib.Core.Path.{sym, ap, _∙_}
-use Prim.Native.Nat.{ℕ, _-_}
+use Prim.Native.Nat.{ℕ}
 use Rattle.numbers.proofs.Algebra.Sum.{δ, δ-same, δ-other}
 use Rattle.tables.proofs.blocks.unit.Statement.{statement}
 use Rattle.tables.proofs.blocks.unit.Tie as tie

@@ -1,13 +1,10 @@
-use lib.IntN.{ℤ, pos, _-ℤ_}
-use lib.ListN.{getD}
-use borrow.Author.Needs.{needs}
-use Rattle.numbers.proofs.Machine.{rd, rd-ok, rd-got}
-use Rattle.tables.specs.Tables.{_·⟨_⟩_, block, entries}
+use Rattle.numbers.proofs.Machine.{rd-ok}
+use Rattle.tables.specs.Tables.{block}
 use Rattle.tables.proofs.Buffers.Places.{square-small}
 use Rattle.tables.proofs.Buffers.Columns.{head, head-room, head-block, Column, column-none, column-more, column-put}
 use native.Mathlib.Omega.{arith}
-use Prim.Native.Nat.{ℕ, _+_, _*_, _-_, _^_, _≤_, _<_}
-use mathlib.Core.Path.{_≡_, refl, sym, ap, _∙_}
+use Prim.Native.Nat.{ℕ, _-_}
+use mathlib.Core.Path.{_∙_}
 use Rattle.tables.proofs.columns.copy.Statement.{statement}
 use Rattle.tables.proofs.columns.copy.Tie as tie
 

@@ -1,16 +1,13 @@
-use lib.IntN.{ℤ, pos, _-ℤ_}
-use lib.ListN.{getD}
-use borrow.Author.Needs.{needs}
 use Rattle.numbers.proofs.Machine.{rd, rd-ok, rd-got}
-use Rattle.tables.specs.Tables.{_·⟨_⟩_, block, entries}
+use Rattle.tables.specs.Tables.{_·⟨_⟩_, block}
 use Rattle.tables.proofs.Buffers.Places.{square-small}
 use lib.Pow.{pow-pos}
 use Rattle.numbers.specs.Remainder.{rem}
 use Rattle.numbers.proofs.Remainders.Remainder.{rem-is, rem-unique}
-use Rattle.tables.proofs.Buffers.Columns.{head, head-room, Column, column-none, column-more, column-put, remain-dot, remain-same, remain-room}
+use Rattle.tables.proofs.Buffers.Columns.{head-room, Column, column-none, column-more, column-put, remain-dot, remain-same, remain-room}
 use native.Mathlib.Omega.{arith}
-use Prim.Native.Nat.{ℕ, _+_, _*_, _-_, _^_, _≤_, _<_}
-use mathlib.Core.Path.{_≡_, refl, sym, ap, _∙_}
+use Prim.Native.Nat.{ℕ, _-_, _^_}
+use mathlib.Core.Path.{_≡_, _∙_}
 use Rattle.tables.proofs.columns.remain.Statement.{statement}
 use Rattle.tables.proofs.columns.remain.Tie as tie
 

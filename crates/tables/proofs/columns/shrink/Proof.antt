@@ -1,14 +1,12 @@
-use lib.IntN.{ℤ, pos, _-ℤ_}
-use lib.ListN.{getD}
-use borrow.Author.Needs.{needs}
+use lib.IntN.{_-ℤ_}
 use Rattle.numbers.proofs.Machine.{rd, rd-ok, rd-got}
 use Rattle.tables.specs.Tables.{_·⟨_⟩_, block, entries}
 use Rattle.tables.proofs.Buffers.Places.{square-small}
 use Rattle.tables.specs.Buffer.{shrunk}
 use Rattle.tables.proofs.Buffers.Columns.{head, head-room, Column, column-none, column-more, column-put, shrink-dot, shrink-reads, shrink-sum, shrink-room}
 use native.Mathlib.Omega.{arith}
-use Prim.Native.Nat.{ℕ, _+_, _*_, _-_, _^_, _≤_, _<_}
-use mathlib.Core.Path.{_≡_, refl, sym, ap, _∙_}
+use Prim.Native.Nat.{ℕ, _-_}
+use mathlib.Core.Path.{_≡_, _∙_}
 use Rattle.tables.proofs.columns.shrink.Statement.{statement}
 use Rattle.tables.proofs.columns.shrink.Tie as tie
 

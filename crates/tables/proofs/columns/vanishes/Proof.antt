@@ -5,8 +5,8 @@ use Rattle.numbers.proofs.Answers.Says.{say-yes, say-no}
 use Rattle.tables.proofs.Buffers.Places.{square-small}
 use Rattle.tables.proofs.Buffers.Columns.{head, head-room, head-block}
 use native.Mathlib.Omega.{arith}
-use Prim.Native.Nat.{ℕ, _+_, _*_, _-_, _≤_, _<_}
-use mathlib.Core.Path.{_≡_, refl, sym, ap, _∙_}
+use Prim.Native.Nat.{ℕ, _-_, _≤_, _<_}
+use mathlib.Core.Path.{_≡_, sym, _∙_}
 use Rattle.tables.proofs.columns.vanishes.Statement.{statement}
 use Rattle.tables.proofs.columns.vanishes.Tie as tie
 

@@ -3,8 +3,8 @@ use Rattle.tables.proofs.Buffers.Wrote.{wrote-none, wrote-more}
 use lib.ListN.{getD}
 use borrow.Author.Needs.{needs}
 use native.Mathlib.Omega.{arith}
-use Prim.Native.Nat.{ℕ, _+_, _*_, _-_, _%_, _^_, _≤_, _<_}
-use mathlib.Core.Path.{_≡_, refl, sym, ap, _∙_}
+use Prim.Native.Nat.{ℕ, _+_, _*_, _-_, _%_, _^_, _≤_}
+use mathlib.Core.Path.{_≡_, ap, _∙_}
 use Rattle.tables.proofs.residues.fold_row.Statement.{statement}
 use Rattle.tables.proofs.residues.fold_row.Tie as tie
 

@@ -1,7 +1,7 @@
 use Rattle.tables.proofs.Buffers.Residues.{Folding, folding-none, folding-more, fold-rooms}
 use native.Mathlib.Omega.{arith}
-use Prim.Native.Nat.{ℕ, _+_, _*_, _-_, _^_, _≤_, _<_}
-use mathlib.Core.Path.{_≡_, refl, sym, ap, _∙_}
+use Prim.Native.Nat.{_-_}
+use mathlib.Core.Path.{_≡_}
 use Rattle.tables.proofs.residues.fold_rows.Statement.{statement}
 use Rattle.tables.proofs.residues.fold_rows.Tie as tie
 

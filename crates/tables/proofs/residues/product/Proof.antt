@@ -1,8 +1,8 @@
 use Rattle.tables.specs.Residues.{product32}
 use Rattle.tables.proofs.Buffers.Places.{Rows, rows-none, rows-more, rows-put}
 use native.Mathlib.Omega.{arith}
-use Prim.Native.Nat.{ℕ, _+_, _*_, _-_, _≤_, _<_}
-use mathlib.Core.Path.{_≡_, refl, sym, ap, _∙_}
+use Prim.Native.Nat.{_-_}
+use mathlib.Core.Path.{refl}
 use Rattle.tables.proofs.residues.product.Statement.{statement}
 use Rattle.tables.proofs.residues.product.Tie as tie
 

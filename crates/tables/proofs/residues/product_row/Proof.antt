@@ -1,8 +1,6 @@
 use Rattle.tables.proofs.Buffers.Places.{square-small, row-end}
 use Rattle.tables.proofs.Buffers.Residues.{fold-asks, widen-asks, row-done}
 use native.Mathlib.Omega.{arith}
-use Prim.Native.Nat.{ℕ, _+_, _*_, _-_, _≤_, _<_}
-use mathlib.Core.Path.{_≡_, refl, sym, ap, _∙_}
 use borrow.Author.Needs.{needs}
 use Rattle.tables.proofs.residues.product_row.Statement.{statement}
 use Rattle.tables.proofs.residues.product_row.Tie as tie

@@ -5,8 +5,8 @@ use lib.ListN.{getD}
 use Rattle.numbers.specs.Remainder.{residue}
 use Rattle.numbers.proofs.Machine.{rd-ok}
 use native.Mathlib.Omega.{arith}
-use Prim.Native.Nat.{ℕ, _+_, _*_, _-_, _^_, _≤_, _<_}
-use mathlib.Core.Path.{_≡_, refl, sym, ap, _∙_}
+use Prim.Native.Nat.{ℕ, _+_, _-_, _^_, _≤_}
+use mathlib.Core.Path.{_≡_}
 use Rattle.tables.proofs.residues.take.Statement.{statement}
 use Rattle.tables.proofs.residues.take.Tie as tie
 

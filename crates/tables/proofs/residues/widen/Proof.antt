@@ -5,8 +5,8 @@ use lib.ListN.{getD}
 use borrow.Author.Needs.{needs}
 use Rattle.numbers.proofs.Machine.{rd-got}
 use native.Mathlib.Omega.{arith}
-use Prim.Native.Nat.{ℕ, _+_, _*_, _-_, _≤_, _<_}
-use mathlib.Core.Path.{_≡_, refl, sym, ap, _∙_}
+use Prim.Native.Nat.{ℕ, _-_, _≤_}
+use mathlib.Core.Path.{_≡_}
 use Rattle.tables.proofs.residues.widen.Statement.{statement}
 use Rattle.tables.proofs.residues.widen.Tie as tie
 
