@@ -1,5 +1,5 @@
--- The inverse modulo 2^32, by the elimination on tables of residues. The first name is the answer of `inverse`; the others are the vocabulary of inner
--- contracts, which a reader of the calls can skip. The elimination's columns are the rows here: it works on the tables turned over.
+-- The inverse modulo 2^32, by the elimination on tables of residues (`residues`, Residues.antt). The first name is the answer of `inverse`;
+-- the others are the vocabulary of inner contracts, which a reader of the calls can skip. The elimination's columns are the rows here: it works on the tables turned over.
 --   Inverted n A o old new     block o holds an inverse of A modulo 2^32, in residues, and all else is as it was
 --   Spans n c p                n is at most 32, and both lists hold a table
 --   Zeros t                    the list holds zeros only

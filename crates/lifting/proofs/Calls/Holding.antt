@@ -1,4 +1,5 @@
--- Residues in a buffer, with B_0 in block 0: what start, step and digit ask, and what a loop over them keeps. need(A) as the code finds it.
+-- Residues in a buffer, with B_0 in block 0: what start, step and digit ask, and what a loop over them keeps. The exponent 32 is enough
+-- for every lawful table.
 use mathlib.Core.Path.{_≡_}
 use mathlib.Core.Logic.{_≢_}
 use mathlib.Core.List.{List}

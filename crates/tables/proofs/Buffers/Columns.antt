@@ -1,4 +1,4 @@
--- The first column of a block, entry by entry: it stands at every n-th place.
+-- The first column of a block, entry by entry: it stands at every n-th place. What the kernels on it need and give.
 use mathlib.Core.Path.{_≡_, refl, sym, ap, _∙_}
 use mathlib.Core.Logic.{_≢_, inl, inr}
 use mathlib.Core.List.{List}

@@ -1,4 +1,4 @@
--- What the kernels of blocks need and give at each place: bounds, sums of products, a division, an extension.
+-- What the kernels of blocks need and give at each place: bounds, sums of products, a division, a reduction, an extension, a test for zero.
 use mathlib.Core.Path.{_≡_, refl, sym, ap, ap₂, _∙_, subst}
 use mathlib.Core.List.{List}
 use Prim.Native.Nat.{ℕ, _+_, _*_, _/_, _%_, _^_, _≤_, _<_}

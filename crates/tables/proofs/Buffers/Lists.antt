@@ -1,4 +1,4 @@
--- Lists of blocks are known by their blocks.
+-- Lists of blocks are known by their blocks, and the list of one table by its entries; a copy as one list.
 use mathlib.Core.Path.{_≡_, sym, ap, _∙_, subst}
 use mathlib.Core.List.{List, _++_}
 use Prim.Native.Nat.{ℕ, zero, suc, _+_, _*_, _-_, _/_, _%_, _≤_, _<_}

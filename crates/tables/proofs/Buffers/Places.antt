@@ -1,4 +1,5 @@
--- The places of a block: its entries row by row, the next place, and that writing one block keeps the others.
+-- The places of a block: its entries row by row, where a row ends, a block written whole or row by row, and that writing one block
+-- keeps the others.
 use mathlib.Core.Path.{_≡_, refl, sym, ap, ap₂, _∙_}
 use mathlib.Core.Logic.{_≢_, _⊎_, inl, inr}
 use mathlib.Core.List.{List}

@@ -1,5 +1,5 @@
--- Numbers modulo 2^32: the residue that the machine holds, and the inverse of an odd number. Where g h is 1 modulo x, 1 - g h is a multiple of x,
--- and 1 - g h (2 - g h) is its square: so h (2 - g h) is an inverse modulo x².
+-- Numbers modulo 2^32: a residue that gains a product, as the machine does it, and the inverse of an odd number. Where g h is 1
+-- modulo x, 1 - g h is a multiple of x, and 1 - g h (2 - g h) is its square: so h (2 - g h) is an inverse modulo x².
 use mathlib.Core.Path.{_≡_, refl, ap}
 use Prim.Native.Nat.{ℕ, _+_, _*_, _%_, _^_}
 use native.Mathlib.Omega.{arith}
