@@ -46,12 +46,10 @@ pub fn remain(n: usize, e: u32, buf: &mut [i64], p: usize, q: usize, o: usize)
     requires { ⌜ Remain n e (now buf) p q o ⌝ }
     ensures { λ _. ⌜ Put n (λ (i j : ℕ). rem (2 ^ e) ((block n (now (buf .entry)) p ·⟨ n ⟩ block n (now (buf .entry)) q) i j)) o (now (buf .entry)) (now (buf .exit)) ⌝ }
 {
-    let mut x = [0u32; 1024];
     let mut y = [0u32; 1024];
     let m = n * n;
-    super::residues::take(m, buf, p * m, &mut x);
     super::residues::take(m, buf, q * m, &mut y);
-    super::residues::product(n, &x, &y, buf, o);
+    super::residues::product(n, &y, buf, p, o);
     balance(n, e, buf, o);
 }
 

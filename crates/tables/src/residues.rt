@@ -3,9 +3,9 @@ ghost use Prim.Native.Nat.{ℕ, _+_, _*_, _%_, _^_, _≤_, _<_};
 ghost use lib.ListN.{length, getD};
 ghost use lib.IntN.{pos};
 ghost use Rattle.numbers.specs.Remainder.{residue};
-ghost use Rattle.tables.specs.Tables.{_·⟨_⟩_};
+ghost use Rattle.tables.specs.Tables.{block};
 ghost use Rattle.tables.specs.Buffer.{Put, RowPut, Wrote};
-ghost use Rattle.tables.specs.Residues.{Takes, Folds, Products, residues, product32};
+ghost use Rattle.tables.specs.Residues.{Takes, Folds, Products, rowTimes, product32};
 
 // The residues of m numbers from place p on.
 pub fn take(m: usize, a: &[i64], p: usize, t: &mut [u32])
@@ -19,36 +19,39 @@ pub fn take(m: usize, a: &[i64], p: usize, t: &mut [u32])
     }
 }
 
-// Block o becomes the product of the tables of residues x and y, in residues.
-pub fn product(n: usize, x: &[u32], y: &[u32], buf: &mut [i64], o: usize)
-    requires { ⌜ Products n (now x) (now y) (now buf) o ⌝ }
-    ensures { λ _. ⌜ Put n (product32 n (now (x .entry)) (now (y .entry))) o (now (buf .entry)) (now (buf .exit)) ⌝ }
+// Block o becomes the product of block p and the table of residues y, in residues.
+pub fn product(n: usize, y: &[u32], buf: &mut [i64], p: usize, o: usize)
+    requires { ⌜ Products n (now y) (now buf) p o ⌝ }
+    ensures { λ _. ⌜ Put n (product32 n (block n (now (buf .entry)) p) (now (y .entry))) o (now (buf .entry)) (now (buf .exit)) ⌝ }
 {
     let mut i: usize = 0;
     while i < n {
-        product_row(n, x, y, buf, o, i);
+        product_row(n, y, buf, p, o, i);
         i += 1;
     }
 }
 
 // Row i of it.
-fn product_row(n: usize, x: &[u32], y: &[u32], buf: &mut [i64], o: usize, i: usize)
-    requires { ⌜ Products n (now x) (now y) (now buf) o × (i < n) ⌝ }
-    ensures { λ _. ⌜ RowPut n (product32 n (now (x .entry)) (now (y .entry))) o i (now (buf .entry)) (now (buf .exit)) ⌝ }
+fn product_row(n: usize, y: &[u32], buf: &mut [i64], p: usize, o: usize, i: usize)
+    requires { ⌜ Products n (now y) (now buf) p o × (i < n) ⌝ }
+    ensures { λ _. ⌜ RowPut n (product32 n (block n (now (buf .entry)) p) (now (y .entry))) o i (now (buf .entry)) (now (buf .exit)) ⌝ }
 {
+    let m = n * n;
+    let mut x = [0u32; 32];
+    take(n, buf, p * m + i * n, &mut x);
     let mut z = [0u32; 32];
-    fold_rows(n, x, i, y, &mut z);
-    widen(n, &z, buf, o * (n * n) + i * n);
+    fold_rows(n, &x, y, &mut z);
+    widen(n, &z, buf, o * m + i * n);
 }
 
-// The same row, in z, which is zero before.
-fn fold_rows(n: usize, x: &[u32], i: usize, y: &[u32], z: &mut [u32])
-    requires { ⌜ Folds n (now x) i (now y) (now z) ⌝ }
-    ensures { λ _. ⌜ Wrote 0 (λ (j : ℕ). residue (2 ^ 32) ((residues n (now (x .entry)) ·⟨ n ⟩ residues n (now (y .entry))) i j)) 0 n (now (z .entry)) (now (z .exit)) ⌝ }
+// The product of the row x and the table y, in z, which is zero before.
+fn fold_rows(n: usize, x: &[u32], y: &[u32], z: &mut [u32])
+    requires { ⌜ Folds n (now x) (now y) (now z) ⌝ }
+    ensures { λ _. ⌜ Wrote 0 (rowTimes n (now (x .entry)) (now (y .entry)) n) 0 n (now (z .entry)) (now (z .exit)) ⌝ }
 {
     let mut k: usize = 0;
     while k < n {
-        fold_row(n, x[i * n + k], y, k * n, z, 0);
+        fold_row(n, x[k], y, k * n, z, 0);
         k += 1;
     }
 }

@@ -59,6 +59,7 @@ module _ {n e : ℕ} {A L : List ℤ} {r d : ℕ} (q : ToDigit n e A L r d) wher
     left = omega (arith, q .here);
     right = q .here;
     target = q .digit;
+    apart = q .base-d;
     low-left = low-more (omega arith) (q .stage .small);
     low-right = q .low;
   }

@@ -14,7 +14,7 @@ use Rattle.numbers.proofs.Remainders.Powers.{power-divides}
 use Rattle.tables.specs.Tables.{_·⟨_⟩_, CongM, block}
 use Rattle.tables.specs.Buffer.{Low, Has, Remain, Balance, Put, Wrote}
 use Rattle.tables.specs.Residues.{residues, product32, Takes, Products}
-use Rattle.tables.proofs.Algebra.Matrix.{congM-·}
+use Rattle.tables.proofs.Algebra.Matrix.{congM-refl, congM-·}
 use Rattle.tables.proofs.Buffers.Places.{square-small}
 use Rattle.tables.proofs.Buffers.Kernels.{low-flat}
 use Rattle.tables.proofs.Buffers.Residues.{taken}
@@ -34,29 +34,28 @@ module _ {n e : ℕ} {L : List ℤ} {p q o : ℕ} (r : Remain n e L p q o) where
     low = low-flat L b (r .order) low;
   }
 
-  pub remain-1 : Takes (n * n) L (p * (n * n)) zeros
-  remain-1 = takes p (r .left) (r .low-left)
+  pub remain-1 : Takes (n * n) L (q * (n * n)) zeros
+  remain-1 = takes q (r .right) (r .low-right)
 
-  pub remain-2 : Takes (n * n) L (q * (n * n)) zeros
-  remain-2 = takes q (r .right) (r .low-right)
-
-  module _ {x y : List ℕ} (u : Taken n L p x) (v : Taken n L q y) where
-    pub remain-3 : Products n x y L o
-    remain-3 = record {
+  module _ {y : List ℕ} (v : Taken n L q y) where
+    pub remain-2 : Products n y L p o
+    remain-2 = record {
       order = r .order;
-      left = rw (u .long ∙ length-replicate {A = ℕ} 1024 0) (square-small (r .order .upto));
+      left = r .left;
       right = rw (v .long ∙ length-replicate {A = ℕ} 1024 0) (square-small (r .order .upto));
       target = r .target;
+      apart = r .apart;
+      low = r .low-left;
     }
 
-    module _ {K : List ℤ} (w : Put n (product32 n x y) o L K) where
-      pub remain-4 : Balance n e K o
-      remain-4 = record {
+    module _ {K : List ℤ} (w : Put n (product32 n (block n L p) y) o L K) where
+      pub remain-3 : Balance n e K o
+      remain-3 = record {
         order = r .order;
         from = r .from;
         upto = r .upto;
         target = omega (arith, r .target, w .long);
-        room = record { low = λ i j h k. rw (w .there i j h k) (omega (arith, residue-below (2 ^ 32) (omega arith) ((residues n x ·⟨ n ⟩ residues n y) i j))) };
+        room = record { low = λ i j h k. rw (w .there i j h k) (omega (arith, residue-below (2 ^ 32) (omega arith) ((block n L p ·⟨ n ⟩ residues n y) i j))) };
       }
 
       pub remain-done : {M : List ℤ} → Put n (λ i j. rem (2 ^ e) (block n K o i j)) o K M → Put n (λ i j. rem (2 ^ e) ((block n L p ·⟨ n ⟩ block n L q) i j)) o L M
@@ -69,5 +68,5 @@ module _ {n e : ℕ} {L : List ℤ} {p q o : ℕ} (r : Remain n e L p q o) where
           same : CongM n (pos (2 ^ 32)) (block n K o) (block n L p ·⟨ n ⟩ block n L q)
           same i j h k =
               cong-trans (cong-of-eq (pos (2 ^ 32)) (w .there i j h k))
-              (cong-trans (residue-cong (2 ^ 32) (omega arith) ((residues n x ·⟨ n ⟩ residues n y) i j))
-              (congM-· n (pos (2 ^ 32)) (taken L (p * (n * n)) u) (taken L (q * (n * n)) v) i j h k))
+              (cong-trans (residue-cong (2 ^ 32) (omega arith) ((block n L p ·⟨ n ⟩ residues n y) i j))
+              (congM-· n (pos (2 ^ 32)) (congM-refl n (pos (2 ^ 32)) (block n L p)) (taken L (q * (n * n)) v) i j h k))

@@ -6,10 +6,10 @@ use Rattle.tables.proofs.residues.fold_rows.Statement.{statement}
 use Rattle.tables.proofs.residues.fold_rows.Tie as tie
 
 abbrev Inv-loop : tie.InvT-loop
-Inv-loop n x i y z₀ k₀ z k = Folding n x i y k z₀ z
+Inv-loop n x y z₀ k₀ z k = Folding n x y k z₀ z
 
 abbrev μ-loop : tie.MeasureT-loop
-μ-loop n x i y z₀ k₀ z k = n - k
+μ-loop n x y z₀ k₀ z k = n - k
 
 loop-holds : tie.Need-loop-holds Inv-loop μ-loop
 loop-holds c = folding-none (c .before .before .before .pre)
@@ -17,24 +17,18 @@ loop-holds c = folding-none (c .before .before .before .pre)
 mul-fold-row : tie.Need-mul-fold-row Inv-loop μ-loop
 mul-fold-row c = let r = fold-rooms (c .before .before .before .before .before .pre) (c .loop-test .taken) in omega arith
 
-add-fold-row : tie.Need-add-fold-row Inv-loop μ-loop
-add-fold-row c = let r = fold-rooms (c .before .before .before .before .before .pre) (c .loop-test .taken) in omega arith
-
-mul-fold-row-2 : tie.Need-mul-fold-row-2 Inv-loop μ-loop
-mul-fold-row-2 c = let r = fold-rooms (c .before .before .before .before .before .pre) (c .loop-test .taken) in omega arith
-
 shared-slice-read-fold-row : tie.Need-shared-slice-read-fold-row Inv-loop μ-loop
 shared-slice-read-fold-row c = let r = fold-rooms (c .before .before .before .before .before .before .pre) (c .before .loop-test .taken) in omega arith
 
-mul-fold-row-3 : tie.Need-mul-fold-row-3 Inv-loop μ-loop
-mul-fold-row-3 c = let r = fold-rooms (c .before .before .before .before .before .before .pre) (c .before .loop-test .taken) in omega arith
+mul-fold-row-2 : tie.Need-mul-fold-row-2 Inv-loop μ-loop
+mul-fold-row-2 c = let r = fold-rooms (c .before .before .before .before .before .before .pre) (c .before .loop-test .taken) in omega arith
 
 fold-row-requires : tie.Need-fold-row-requires Inv-loop μ-loop
 fold-row-requires c κs =
     let l = c .before .before .before in
     let s = l .before .before .before .before in
     let r = fold-rooms (s .pre) (c .before .before .loop-test .taken) in
-    (r .1 .0, omega (arith, s .pre .target, l .loop .inv .wrote .long))
+    (r .0, omega (arith, s .pre .target, l .loop .inv .wrote .long))
 
 add-k : tie.Need-add-k Inv-loop μ-loop
 add-k c = omega arith
@@ -63,10 +57,8 @@ fold-rows-spec =
     μ-loop
     loop-holds
     mul-fold-row
-    add-fold-row
-    mul-fold-row-2
     shared-slice-read-fold-row
-    mul-fold-row-3
+    mul-fold-row-2
     fold-row-requires
     add-k
     loop-less

@@ -1,16 +1,17 @@
 use Rattle.tables.specs.Residues.{product32}
-use Rattle.tables.proofs.Buffers.Places.{Rows, rows-none, rows-more, rows-put}
+use Rattle.tables.proofs.Buffers.Places.{Rows, rows-none, rows-more, rows-put, rows-rest}
+use Rattle.tables.specs.Tables.{block}
+use Rattle.tables.proofs.Buffers.Residues.{products-kept, products-same}
 use native.Mathlib.Omega.{arith}
 use Prim.Native.Nat.{_-_}
-use mathlib.Core.Path.{refl}
 use Rattle.tables.proofs.residues.product.Statement.{statement}
 use Rattle.tables.proofs.residues.product.Tie as tie
 
 abbrev Inv-loop : tie.InvT-loop
-Inv-loop n x y buf₀ o i₀ buf i = Rows n (product32 n x y) o i buf₀ buf
+Inv-loop n y buf₀ p o i₀ buf i = Rows n (product32 n (block n buf₀ p) y) o i buf₀ buf
 
 abbrev μ-loop : tie.MeasureT-loop
-μ-loop n x y buf₀ o i₀ buf i = n - i
+μ-loop n y buf₀ p o i₀ buf i = n - i
 
 loop-holds : tie.Need-loop-holds Inv-loop μ-loop
 loop-holds c = rows-none _
@@ -18,8 +19,7 @@ loop-holds c = rows-none _
 product-row-requires : tie.Need-product-row-requires Inv-loop μ-loop
 product-row-requires c κs =
     let l = c .before .before in
-    let r = l .before .before .before .pre in
-    (record { order = r .order; left = r .left; right = r .right; target = omega (arith, r .target, l .loop .inv .wrote .long) }, c .before .loop-test .taken)
+    (products-kept (l .before .before .pre) (rows-rest (l .loop .inv)), c .before .loop-test .taken)
 
 add-i : tie.Need-add-i Inv-loop μ-loop
 add-i c = omega arith
@@ -30,7 +30,8 @@ loop-less c = omega arith
 loop-again : tie.Need-loop-again Inv-loop μ-loop
 loop-again c =
     let l = c .before .before .before .before in
-    rows-more (c .before .before .before .loop-test .taken) (l .loop .inv) (c .before .product-row .ensures) (λ j k. refl)
+    let h = c .before .before .before .loop-test .taken in
+    rows-more h (l .loop .inv) (c .before .product-row .ensures) (λ j k. products-same (l .before .before .pre) (rows-rest (l .loop .inv)) _ j h k)
 
 same-length : tie.Need-same-length Inv-loop μ-loop
 same-length c = c .before .loop .inv .wrote .long
