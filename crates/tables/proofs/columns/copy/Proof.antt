@@ -1,9 +1,10 @@
+use lib.ListN.{length}
 use Rattle.numbers.proofs.Machine.{rd-ok}
 use Rattle.tables.specs.Tables.{block}
 use Rattle.tables.proofs.Buffers.Places.{square-small}
 use Rattle.tables.proofs.Buffers.Columns.{head, head-room, head-block, Column, column-none, column-more, column-put}
 use native.Mathlib.Omega.{arith}
-use Prim.Native.Nat.{ℕ, _-_}
+use Prim.Native.Nat.{ℕ, _-_, _+_, _*_, _≤_, _<_}
 use mathlib.Core.Path.{_∙_}
 use Rattle.tables.proofs.columns.copy.Statement.{statement}
 use Rattle.tables.proofs.columns.copy.Tie as tie
@@ -26,77 +27,36 @@ mul-oa c = omega arith
 loop-holds : tie.Need-loop-holds Inv-loop μ-loop
 loop-holds c = column-none
 
+-- the place that is read, and the one that is written
+place : (b : ℕ) (c : tie.In-loop Inv-loop μ-loop) → let l = c .before in let g = l .before .args in b * (g .n * g .n) + g .n * g .n ≤ length (g .buf .now) → (b * (g .n * g .n) + l .loop .i * g .n < length (l .loop .buf)) × ((l .loop .i * g .n ≤ 1024) × (g .n * g .n ≤ 1024))
+place b c room =
+    let l = c .before in
+    let g = l .before .args in
+    rw (l .loop .inv .long) (head-room (g .n) b _ (l .loop .i) (l .before .pre .order) (c .loop-test .taken) room)
+
 mul-buf : tie.Need-mul-buf Inv-loop μ-loop
-mul-buf c =
-    let s = c .before .before in
-    let g = s .args in
-    let N = c .before .loop .inv .long in
-    let rp = head-room (g .n) (g .p) _ (c .before .loop .i) (s .pre .order) (c .loop-test .taken) (s .pre .source) in
-    let ro = head-room (g .n) (g .o) _ (c .before .loop .i) (s .pre .order) (c .loop-test .taken) (s .pre .target) in
-    omega arith
+mul-buf c = let r = place _ c (c .before .before .pre .source) in omega arith
 
 add-buf : tie.Need-add-buf Inv-loop μ-loop
-add-buf c =
-    let s = c .before .before in
-    let g = s .args in
-    let N = c .before .loop .inv .long in
-    let rp = head-room (g .n) (g .p) _ (c .before .loop .i) (s .pre .order) (c .loop-test .taken) (s .pre .source) in
-    let ro = head-room (g .n) (g .o) _ (c .before .loop .i) (s .pre .order) (c .loop-test .taken) (s .pre .target) in
-    omega arith
+add-buf c = let r = place _ c (c .before .before .pre .source) in omega arith
 
 mul-buf-2 : tie.Need-mul-buf-2 Inv-loop μ-loop
-mul-buf-2 c =
-    let s = c .before .before in
-    let g = s .args in
-    let N = c .before .loop .inv .long in
-    let rp = head-room (g .n) (g .p) _ (c .before .loop .i) (s .pre .order) (c .loop-test .taken) (s .pre .source) in
-    let ro = head-room (g .n) (g .o) _ (c .before .loop .i) (s .pre .order) (c .loop-test .taken) (s .pre .target) in
-    omega arith
+mul-buf-2 c = let r = place _ c (c .before .before .pre .source) in omega arith
 
 slice-copy-out-buf : tie.Need-slice-copy-out-buf Inv-loop μ-loop
-slice-copy-out-buf c =
-    let s = c .before .before in
-    let g = s .args in
-    let N = c .before .loop .inv .long in
-    let rp = head-room (g .n) (g .p) _ (c .before .loop .i) (s .pre .order) (c .loop-test .taken) (s .pre .source) in
-    let ro = head-room (g .n) (g .o) _ (c .before .loop .i) (s .pre .order) (c .loop-test .taken) (s .pre .target) in
-    omega arith
+slice-copy-out-buf c = let r = place _ c (c .before .before .pre .source) in omega arith
 
 mul-t15 : tie.Need-mul-t15 Inv-loop μ-loop
-mul-t15 c =
-    let s = c .before .before .before in
-    let g = s .args in
-    let N = c .before .before .loop .inv .long in
-    let rp = head-room (g .n) (g .p) _ (c .before .before .loop .i) (s .pre .order) (c .before .loop-test .taken) (s .pre .source) in
-    let ro = head-room (g .n) (g .o) _ (c .before .before .loop .i) (s .pre .order) (c .before .loop-test .taken) (s .pre .target) in
-    omega arith
+mul-t15 c = let r = place _ (c .before) (c .before .before .before .pre .target) in omega arith
 
 add-t16 : tie.Need-add-t16 Inv-loop μ-loop
-add-t16 c =
-    let s = c .before .before .before in
-    let g = s .args in
-    let N = c .before .before .loop .inv .long in
-    let rp = head-room (g .n) (g .p) _ (c .before .before .loop .i) (s .pre .order) (c .before .loop-test .taken) (s .pre .source) in
-    let ro = head-room (g .n) (g .o) _ (c .before .before .loop .i) (s .pre .order) (c .before .loop-test .taken) (s .pre .target) in
-    omega arith
+add-t16 c = let r = place _ (c .before) (c .before .before .before .pre .target) in omega arith
 
 mul-t17 : tie.Need-mul-t17 Inv-loop μ-loop
-mul-t17 c =
-    let s = c .before .before .before in
-    let g = s .args in
-    let N = c .before .before .loop .inv .long in
-    let rp = head-room (g .n) (g .p) _ (c .before .before .loop .i) (s .pre .order) (c .before .loop-test .taken) (s .pre .source) in
-    let ro = head-room (g .n) (g .o) _ (c .before .before .loop .i) (s .pre .order) (c .before .loop-test .taken) (s .pre .target) in
-    omega arith
+mul-t17 c = let r = place _ (c .before) (c .before .before .before .pre .target) in omega arith
 
 slice-set-from-buf : tie.Need-slice-set-from-buf Inv-loop μ-loop
-slice-set-from-buf c =
-    let s = c .before .before .before in
-    let g = s .args in
-    let N = c .before .before .loop .inv .long in
-    let rp = head-room (g .n) (g .p) _ (c .before .before .loop .i) (s .pre .order) (c .before .loop-test .taken) (s .pre .source) in
-    let ro = head-room (g .n) (g .o) _ (c .before .before .loop .i) (s .pre .order) (c .before .loop-test .taken) (s .pre .target) in
-    omega arith
+slice-set-from-buf c = let r = place _ (c .before) (c .before .before .before .pre .target) in omega arith
 
 add-i : tie.Need-add-i Inv-loop μ-loop
 add-i c = omega arith

@@ -1,3 +1,4 @@
+use lib.ListN.{length}
 use Rattle.numbers.proofs.Machine.{rd, rd-ok, rd-got}
 use Rattle.tables.specs.Tables.{_·⟨_⟩_, block}
 use Rattle.tables.proofs.Buffers.Places.{square-small}
@@ -6,7 +7,7 @@ use Rattle.numbers.specs.Remainder.{rem}
 use Rattle.numbers.proofs.Remainders.Remainder.{rem-is, rem-unique}
 use Rattle.tables.proofs.Buffers.Columns.{head-room, Column, column-none, column-more, column-put, remain-dot, remain-same, remain-room}
 use native.Mathlib.Omega.{arith}
-use Prim.Native.Nat.{ℕ, _-_, _^_}
+use Prim.Native.Nat.{ℕ, _-_, _^_, _+_, _*_, _≤_, _<_}
 use mathlib.Core.Path.{_≡_, _∙_}
 use Rattle.tables.proofs.columns.remain.Statement.{statement}
 use Rattle.tables.proofs.columns.remain.Tie as tie
@@ -47,37 +48,24 @@ rem-pow-requires c κs =
     let h = c .before .before .loop-test .taken in
     simp (sums-it c) ((l .before .pre .from, l .before .pre .upto), remain-room (l .before .pre) (l .loop .inv) h)
 
+-- the place that is written
+place : (c : tie.In-loop Inv-loop μ-loop) → let l = c .before in let g = l .before .args in (g .o * (g .n * g .n) + l .loop .i * g .n < length (l .loop .buf)) × ((l .loop .i * g .n ≤ 1024) × (g .n * g .n ≤ 1024))
+place c =
+    let l = c .before in
+    let g = l .before .args in
+    rw (l .loop .inv .long) (head-room (g .n) (g .o) _ (l .loop .i) (l .before .pre .order) (c .loop-test .taken) (l .before .pre .target))
+
 mul-t19 : tie.Need-mul-t19 Inv-loop μ-loop
-mul-t19 c =
-    let s = c .before .before .before .before .before in
-    let g = s .args in
-    let N = c .before .before .before .before .loop .inv .long in
-    let ro = head-room (g .n) (g .o) _ (c .before .before .before .before .loop .i) (s .pre .order) (c .before .before .before .loop-test .taken) (s .pre .target) in
-    omega arith
+mul-t19 c = let r = place (c .before .before .before) in omega arith
 
 add-t20 : tie.Need-add-t20 Inv-loop μ-loop
-add-t20 c =
-    let s = c .before .before .before .before .before in
-    let g = s .args in
-    let N = c .before .before .before .before .loop .inv .long in
-    let ro = head-room (g .n) (g .o) _ (c .before .before .before .before .loop .i) (s .pre .order) (c .before .before .before .loop-test .taken) (s .pre .target) in
-    omega arith
+add-t20 c = let r = place (c .before .before .before) in omega arith
 
 mul-t21 : tie.Need-mul-t21 Inv-loop μ-loop
-mul-t21 c =
-    let s = c .before .before .before .before .before in
-    let g = s .args in
-    let N = c .before .before .before .before .loop .inv .long in
-    let ro = head-room (g .n) (g .o) _ (c .before .before .before .before .loop .i) (s .pre .order) (c .before .before .before .loop-test .taken) (s .pre .target) in
-    omega arith
+mul-t21 c = let r = place (c .before .before .before) in omega arith
 
 slice-set-from-buf : tie.Need-slice-set-from-buf Inv-loop μ-loop
-slice-set-from-buf c =
-    let s = c .before .before .before .before .before in
-    let g = s .args in
-    let N = c .before .before .before .before .loop .inv .long in
-    let ro = head-room (g .n) (g .o) _ (c .before .before .before .before .loop .i) (s .pre .order) (c .before .before .before .loop-test .taken) (s .pre .target) in
-    omega arith
+slice-set-from-buf c = let r = place (c .before .before .before) in omega arith
 
 add-i : tie.Need-add-i Inv-loop μ-loop
 add-i c = omega arith

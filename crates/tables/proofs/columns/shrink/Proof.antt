@@ -1,3 +1,4 @@
+use lib.ListN.{length}
 use lib.IntN.{_-ℤ_}
 use Rattle.numbers.proofs.Machine.{rd, rd-ok, rd-got}
 use Rattle.tables.specs.Tables.{_·⟨_⟩_, block, entries}
@@ -5,7 +6,7 @@ use Rattle.tables.proofs.Buffers.Places.{square-small}
 use Rattle.tables.specs.Buffer.{shrunk}
 use Rattle.tables.proofs.Buffers.Columns.{head, head-room, Column, column-none, column-more, column-put, shrink-dot, shrink-reads, shrink-sum, shrink-room}
 use native.Mathlib.Omega.{arith}
-use Prim.Native.Nat.{ℕ, _-_}
+use Prim.Native.Nat.{ℕ, _-_, _+_, _*_, _≤_, _<_}
 use mathlib.Core.Path.{_≡_, _∙_}
 use Rattle.tables.proofs.columns.shrink.Statement.{statement}
 use Rattle.tables.proofs.columns.shrink.Tie as tie
@@ -31,37 +32,24 @@ loop-holds c = column-none
 dot-requires : tie.Need-dot-requires Inv-loop μ-loop
 dot-requires c κs = let l = c .before .before in shrink-dot (l .before .pre) (l .loop .inv) (c .before .loop-test .taken)
 
+-- the place that is read and written
+place : (c : tie.In-loop Inv-loop μ-loop) → let l = c .before in let g = l .before .args in (g .s * (g .n * g .n) + l .loop .i * g .n < length (l .loop .buf)) × ((l .loop .i * g .n ≤ 1024) × (g .n * g .n ≤ 1024))
+place c =
+    let l = c .before in
+    let g = l .before .args in
+    rw (l .loop .inv .long) (head-room (g .n) (g .s) _ (l .loop .i) (l .before .pre .order) (c .loop-test .taken) (l .before .pre .target))
+
 mul-sub : tie.Need-mul-sub Inv-loop μ-loop
-mul-sub c =
-    let s = c .before .before .before .before in
-    let g = s .args in
-    let N = c .before .before .before .loop .inv .long in
-    let rs = head-room (g .n) (g .s) _ (c .before .before .before .loop .i) (s .pre .order) (c .before .before .loop-test .taken) (s .pre .target) in
-    omega arith
+mul-sub c = let r = place (c .before .before) in omega arith
 
 add-sub : tie.Need-add-sub Inv-loop μ-loop
-add-sub c =
-    let s = c .before .before .before .before in
-    let g = s .args in
-    let N = c .before .before .before .loop .inv .long in
-    let rs = head-room (g .n) (g .s) _ (c .before .before .before .loop .i) (s .pre .order) (c .before .before .loop-test .taken) (s .pre .target) in
-    omega arith
+add-sub c = let r = place (c .before .before) in omega arith
 
 mul-sub-2 : tie.Need-mul-sub-2 Inv-loop μ-loop
-mul-sub-2 c =
-    let s = c .before .before .before .before in
-    let g = s .args in
-    let N = c .before .before .before .loop .inv .long in
-    let rs = head-room (g .n) (g .s) _ (c .before .before .before .loop .i) (s .pre .order) (c .before .before .loop-test .taken) (s .pre .target) in
-    omega arith
+mul-sub-2 c = let r = place (c .before .before) in omega arith
 
 slice-copy-out-sub : tie.Need-slice-copy-out-sub Inv-loop μ-loop
-slice-copy-out-sub c =
-    let s = c .before .before .before .before in
-    let g = s .args in
-    let N = c .before .before .before .loop .inv .long in
-    let rs = head-room (g .n) (g .s) _ (c .before .before .before .loop .i) (s .pre .order) (c .before .before .loop-test .taken) (s .pre .target) in
-    omega arith
+slice-copy-out-sub c = let r = place (c .before .before) in omega arith
 
 -- what is read, what is subtracted, and the difference, of the numbers themselves
 reads-it : (c : tie.After-sub-arg Inv-loop μ-loop) → let l = c .before .before .before .before in let g = l .before .args in rd (head (g .n) (l .loop .buf) (g .s) (l .loop .i)) ≡ block (g .n) (g .buf .now) (g .s) (l .loop .i) 0
@@ -87,36 +75,16 @@ shr-requires : tie.Need-shr-requires Inv-loop μ-loop
 shr-requires c κs = omega arith
 
 mul-v : tie.Need-mul-v Inv-loop μ-loop
-mul-v c =
-    let s = c .before .before .before .before .before .before .before in
-    let g = s .args in
-    let N = c .before .before .before .before .before .before .loop .inv .long in
-    let rs = head-room (g .n) (g .s) _ (c .before .before .before .before .before .before .loop .i) (s .pre .order) (c .before .before .before .before .before .loop-test .taken) (s .pre .target) in
-    omega arith
+mul-v c = let r = place (c .before .before .before .before .before) in omega arith
 
 add-v : tie.Need-add-v Inv-loop μ-loop
-add-v c =
-    let s = c .before .before .before .before .before .before .before in
-    let g = s .args in
-    let N = c .before .before .before .before .before .before .loop .inv .long in
-    let rs = head-room (g .n) (g .s) _ (c .before .before .before .before .before .before .loop .i) (s .pre .order) (c .before .before .before .before .before .loop-test .taken) (s .pre .target) in
-    omega arith
+add-v c = let r = place (c .before .before .before .before .before) in omega arith
 
 mul-v-2 : tie.Need-mul-v-2 Inv-loop μ-loop
-mul-v-2 c =
-    let s = c .before .before .before .before .before .before .before in
-    let g = s .args in
-    let N = c .before .before .before .before .before .before .loop .inv .long in
-    let rs = head-room (g .n) (g .s) _ (c .before .before .before .before .before .before .loop .i) (s .pre .order) (c .before .before .before .before .before .loop-test .taken) (s .pre .target) in
-    omega arith
+mul-v-2 c = let r = place (c .before .before .before .before .before) in omega arith
 
 slice-set-from-v : tie.Need-slice-set-from-v Inv-loop μ-loop
-slice-set-from-v c =
-    let s = c .before .before .before .before .before .before .before in
-    let g = s .args in
-    let N = c .before .before .before .before .before .before .loop .inv .long in
-    let rs = head-room (g .n) (g .s) _ (c .before .before .before .before .before .before .loop .i) (s .pre .order) (c .before .before .before .before .before .loop-test .taken) (s .pre .target) in
-    omega arith
+slice-set-from-v c = let r = place (c .before .before .before .before .before) in omega arith
 
 add-i : tie.Need-add-i Inv-loop μ-loop
 add-i c = omega arith

@@ -1,3 +1,4 @@
+use lib.ListN.{length}
 use lib.IntN.{pos}
 use borrow.Author.Count.{below-more}
 use Rattle.numbers.proofs.Machine.{bits-zero, zero-bits}
@@ -5,7 +6,7 @@ use Rattle.numbers.proofs.Answers.Says.{say-yes, say-no}
 use Rattle.tables.proofs.Buffers.Places.{square-small}
 use Rattle.tables.proofs.Buffers.Columns.{head, head-room, head-block}
 use native.Mathlib.Omega.{arith}
-use Prim.Native.Nat.{ℕ, _-_, _≤_, _<_}
+use Prim.Native.Nat.{ℕ, _-_, _≤_, _<_, _+_, _*_}
 use mathlib.Core.Path.{_≡_, sym, _∙_}
 use Rattle.tables.proofs.columns.vanishes.Statement.{statement}
 use Rattle.tables.proofs.columns.vanishes.Tie as tie
@@ -28,33 +29,24 @@ none k h = omega arith
 loop-holds : tie.Need-loop-holds Inv-loop μ-loop
 loop-holds c = (omega arith, λ k h. absurd (none k h))
 
+-- the place that is read
+place : (c : tie.In-loop Inv-loop μ-loop) → let l = c .before in let g = l .before .args in (g .o * (g .n * g .n) + l .loop .i * g .n < length (g .buf .now)) × ((l .loop .i * g .n ≤ 1024) × (g .n * g .n ≤ 1024))
+place c =
+    let l = c .before in
+    let g = l .before .args in
+    head-room (g .n) (g .o) _ (l .loop .i) (l .before .pre .0) (c .loop-test .taken) (l .before .pre .1)
+
 mul-if1 : tie.Need-mul-if1 Inv-loop μ-loop
-mul-if1 c =
-    let s = c .before .before in
-    let g = s .args in
-    let r = head-room (g .n) (g .o) _ (c .before .loop .i) (s .pre .0) (c .loop-test .taken) (s .pre .1) in
-    omega arith
+mul-if1 c = let r = place c in omega arith
 
 add-if1 : tie.Need-add-if1 Inv-loop μ-loop
-add-if1 c =
-    let s = c .before .before in
-    let g = s .args in
-    let r = head-room (g .n) (g .o) _ (c .before .loop .i) (s .pre .0) (c .loop-test .taken) (s .pre .1) in
-    omega arith
+add-if1 c = let r = place c in omega arith
 
 mul-if1-2 : tie.Need-mul-if1-2 Inv-loop μ-loop
-mul-if1-2 c =
-    let s = c .before .before in
-    let g = s .args in
-    let r = head-room (g .n) (g .o) _ (c .before .loop .i) (s .pre .0) (c .loop-test .taken) (s .pre .1) in
-    omega arith
+mul-if1-2 c = let r = place c in omega arith
 
 shared-slice-copy-out-if1 : tie.Need-shared-slice-copy-out-if1 Inv-loop μ-loop
-shared-slice-copy-out-if1 c =
-    let s = c .before .before in
-    let g = s .args in
-    let r = head-room (g .n) (g .o) _ (c .before .loop .i) (s .pre .0) (c .loop-test .taken) (s .pre .1) in
-    omega arith
+shared-slice-copy-out-if1 c = let r = place c in omega arith
 
 returns : tie.Need-returns Inv-loop μ-loop
 returns c =
