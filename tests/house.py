@@ -61,6 +61,9 @@ def must_fail_edits_are_refused_for_a_false_fact():
         text = log.read_text(encoding="utf8", errors="replace").splitlines()
         first = next((l for l in text if ": error" in l or "it is not proved that" in l), "")
         assert first and not re.search("that can be named from here|has no field", first), f"{log}: {first}"
+        # a call whose requirement fails says only that the callee is not asked rightly: something more must be false
+        more = [l for l in text if (": error" in l and not re.search(r"error: `[^`]*-requires(-\d+)?`|was not admitted", l)) or "it is not proved that" in l]
+        assert more, f"{log}: only a call's requirement fails"
     return f"{len(edits)} edits"
 
 

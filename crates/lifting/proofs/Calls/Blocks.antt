@@ -7,9 +7,9 @@ use native.Mathlib.Omega.{arith}
 use lib.IntN.{ℤ}
 use lib.ListN.{length}
 use denote.Ref.{RefT, now}
-use Rattle.tables.specs.Views.{Stretch, Same}
+use Rattle.tables.specs.Views.{Same}
 use Rattle.tables.proofs.Buffers.Places.{next-row, square-small}
-use Rattle.tables.proofs.Checking.Views.{stretch-unique, both?, iff?, order?}
+use Rattle.tables.proofs.Checking.Views.{view-unique, both?, iff?, order?}
 use Rattle.lifting.specs.Views.{HasBlock, BlockGives}
 
 pub size-small : {n s : ℕ} → n ≤ 32 → s ≤ 4 → (n * n ≤ 1024) × ((2 * s + 2) * (n * n) ≤ 10240)
@@ -23,20 +23,10 @@ block-fits {n} {s} {size} {j} h =
     let b = mul-le-mul-right (n * n) a in
     omega (arith, next-row j (n * n), size-small (h .order .upto) (h .lifts), h .whole)
 
-module _ {n s j : ℕ} {t r : RefT (List ℤ)} where
-  pub block-there : HasBlock n s (length (now t)) j → Stretch t r (j * (n * n)) (n * n) → BlockGives n s t j r
-  block-there h p = record { there = λ g. p; none = λ f. absurd (f h) }
-
-  pub block-none : ¬ HasBlock n s (length (now t)) j → Stretch t r 0 0 → BlockGives n s t j r
-  block-none f p = record { there = λ h. absurd (f h); none = λ g. p }
-
 block? : (n s size j : ℕ) → Dec (HasBlock n s size j)
 block? n s size j =
     iff? (λ h. record { order = h .0; lifts = h .1 .0; whole = h .1 .1 .0; inside = h .1 .1 .1 }) (λ b. (b .order, (b .lifts, (b .whole, b .inside))))
     (both? (order? n) (both? (decLe s 4) (both? (ℕ-discrete size ((2 * s + 2) * (n * n))) (decLe j (2 * s + 1)))))
 
 pub block-unique : {n s j : ℕ} {t r u : RefT (List ℤ)} → BlockGives n s t j r → BlockGives n s t j u → Same r u
-block-unique {n} {s} {j} {t} p q = elim (block? n s (length (now t)) j) [
-  | yes h ↦ stretch-unique (p .there h) (q .there h)
-  | no f ↦ stretch-unique (p .none f) (q .none f)
-]
+block-unique {n} {s} {j} {t} = view-unique (block? n s (length (now t)) j)

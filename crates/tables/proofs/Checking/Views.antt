@@ -1,4 +1,4 @@
--- Views: the stretch is one place and one list, and so is what `row` hands back.
+-- Views: a stretch is one place and one list, so a view that is there or not is one, and so is what `row` hands back.
 use mathlib.Core.Path.{sym, _∙_}
 use mathlib.Core.List.{List}
 use Prim.Native.Nat.{ℕ, _+_, _*_, _≤_}
@@ -9,13 +9,24 @@ use lib.IntN.{ℤ}
 use lib.ListN.{length}
 use denote.Ref.{RefT, now}
 use Rattle.numbers.specs.Limits.{IsOrder}
-use Rattle.tables.specs.Views.{Stretch, Same, HasRow, RowGives}
+use Rattle.tables.specs.Views.{Stretch, Same, View, HasRow, RowGives}
 use Rattle.tables.proofs.Buffers.Places.{square-small}
 
 -- ---- a view that is there or not
 
 pub stretch-unique : {t r s : RefT (List ℤ)} {start size : ℕ} → Stretch t r start size → Stretch t s start size → Same r s
 stretch-unique p q = record { memory = p .memory ∙ sym (q .memory); place = p .place ∙ sym (q .place); list = p .list ∙ sym (q .list) }
+
+module _ {P : Type 0} {t r : RefT (List ℤ)} {start size : ℕ} where
+  pub view-there : P → Stretch t r start size → View P t r start size
+  view-there h s = record { there = λ g. s; none = λ f. absurd (f h) }
+
+  pub view-none : ¬ P → Stretch t r 0 0 → View P t r start size
+  view-none f s = record { there = λ h. absurd (f h); none = λ g. s }
+
+pub view-unique : {P : Type 0} {t r s : RefT (List ℤ)} {start size : ℕ} → Dec P → View P t r start size → View P t s start size → Same r s
+view-unique (yes h) p q = stretch-unique (p .there h) (q .there h)
+view-unique (no f) p q = stretch-unique (p .none f) (q .none f)
 
 -- ---- row
 
@@ -25,13 +36,6 @@ row-fits {n} {size} {i} h =
     let b = suc-mul i n in
     let c = square-small (h .order .upto) in
     omega (arith, h .whole)
-
-module _ {n i : ℕ} {t r : RefT (List ℤ)} where
-  pub row-there : HasRow n (length (now t)) i → Stretch t r (i * n) n → RowGives n t i r
-  row-there h s = record { there = λ g. s; none = λ f. absurd (f h) }
-
-  pub row-none : ¬ HasRow n (length (now t)) i → Stretch t r 0 0 → RowGives n t i r
-  row-none f s = record { there = λ h. absurd (f h); none = λ g. s }
 
 -- ---- what `row` hands back is one
 
@@ -53,7 +57,4 @@ row? n size i =
     (both? (order? n) (both? (ℕ-discrete size (n * n)) (decLt i n)))
 
 pub row-unique : {n i : ℕ} {t r s : RefT (List ℤ)} → RowGives n t i r → RowGives n t i s → Same r s
-row-unique {n} {i} {t} p q = elim (row? n (length (now t)) i) [
-  | yes h ↦ stretch-unique (p .there h) (q .there h)
-  | no f ↦ stretch-unique (p .none f) (q .none f)
-]
+row-unique {n} {i} {t} = view-unique (row? n (length (now t)) i)
