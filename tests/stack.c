@@ -49,8 +49,9 @@ static void block(void) {
     answer = probe_block(N, LIFTS, expansion, (2 * LIFTS + 2) * CELLS, 2 * LIFTS + 1, inverse, CELLS);
 }
 
-/* The tables: the deepest chain, the identity, a full one with an odd determinant, and the one of the longest sheet. */
-enum { CHAIN, IDENTITY, ODD, LONGEST, TABLES };
+/* The tables: the deepest chain, the identity, one whose inverse is at the width and so takes two digits, a full one with an odd determinant, and the one of
+ * the longest sheet. */
+enum { CHAIN, IDENTITY, WIDEST, ODD, LONGEST, TABLES };
 
 static int64_t cell(int kind, int i, int j) {
     switch (kind) {
@@ -58,6 +59,8 @@ static int64_t cell(int kind, int i, int j) {
         return i == j ? 1 : j == i + 1 ? LIMIT : 0;
     case IDENTITY:
         return i == j;
+    case WIDEST:
+        return i == j ? 1 : j != i + 1 ? 0 : i == 0 ? LIMIT / 4 : i == 1 ? LIMIT / 2 : 0;
     case ODD:
         return (i == j) + 2 * ((i * 7919 + j * 104729 + i * j * 31) % (LIMIT / 2)) - LIMIT / 2;
     default:
@@ -107,15 +110,15 @@ int main(void) {
         void (*call)(void);
         unsigned answers[TABLES]; /* that the path was the one meant */
     } calls[] = {
-        {"muljenta_verdict", host_verdict, {0, 0, 7, 7}},
-        {"muljenta_inverse", host_inverse, {8, 0, 7, 7}},
-        {"probe_lift", lift, {0, 0, 0, 6}},
-        {"probe_verdict", verdict, {0, 0, 7, 7}},
-        {"probe_inverse", invert, {8, 0, 7, 7}},
-        {"probe_read", read_sheet, {0, 0, 0, 0}},
-        {"probe_report", report_sheet, {8, 0, 7, 7}},
-        {"probe_row", row, {N, N, N, N}},
-        {"probe_block", block, {CELLS, CELLS, CELLS, CELLS}},
+        {"muljenta_verdict", host_verdict, {0, 0, 0, 7, 7}},
+        {"muljenta_inverse", host_inverse, {8, 0, 0, 7, 7}},
+        {"probe_lift", lift, {0, 0, 0, 0, 6}},
+        {"probe_verdict", verdict, {0, 0, 0, 7, 7}},
+        {"probe_inverse", invert, {8, 0, 0, 7, 7}},
+        {"probe_read", read_sheet, {0, 0, 0, 0, 0}},
+        {"probe_report", report_sheet, {8, 0, 0, 7, 7}},
+        {"probe_row", row, {N, N, N, N, N}},
+        {"probe_block", block, {CELLS, CELLS, CELLS, CELLS, CELLS}},
     };
     int failed = 0;
     stack = mmap(NULL, STACK, PROT_READ | PROT_WRITE, MAP_PRIVATE | MAP_ANONYMOUS, -1, 0);
