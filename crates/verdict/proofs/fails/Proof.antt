@@ -22,40 +22,16 @@ loop-holds c =
     (s .pre .0 .order .from, (omega arith, linear-first (s .pre .0) (p .long ∙ s .pre .1 .0) (copied-start p (s .args .a .now) (s .pre .1 .1)) (copied-column p (s .pre .0 .order .from))))
 
 vanishes-requires : tie.Need-vanishes-requires Inv-loop μ-loop
-vanishes-requires c κs =
-    let l = c .before .before in
-    let p = c .before .before .before .before .copy .ensures in
-    let s = c .before .before .before .before .before .before in
-    let z = p .long ∙ s .pre .1 .0 in
-    let b = copied-start p (s .args .a .now) (s .pre .1 .1) in
-    (s .pre .0 .order, in-buffer 2 (s .pre .0 .order .upto) (omega arith) (l .loop .inv .1 .1 .long))
+vanishes-requires c κs = let q = c .before .before .loop .inv .1 .1 in (q .law .order, in-buffer 2 (q .law .order .upto) (omega arith) (q .long))
 
 same-length : tie.Need-same-length Inv-loop μ-loop
-same-length c =
-    let l = c .before .before .before .before in
-    let p = c .before .before .before .before .before .before .copy .ensures in
-    let s = c .before .before .before .before .before .before .before .before in
-    let z = p .long ∙ s .pre .1 .0 in
-    let b = copied-start p (s .args .a .now) (s .pre .1 .1) in
-    l .loop .inv .1 .1 .long ∙ sym (s .pre .1 .0)
+same-length c = c .before .before .before .before .loop .inv .1 .1 .long ∙ sym (c .before .before .before .before .before .before .before .before .pre .1 .0)
 
 returns : tie.Need-returns Inv-loop μ-loop
-returns c =
-    let l = c .before .before .before .before in
-    let p = c .before .before .before .before .before .before .copy .ensures in
-    let s = c .before .before .before .before .before .before .before .before in
-    let z = p .long ∙ s .pre .1 .0 in
-    let b = copied-start p (s .args .a .now) (s .pre .1 .1) in
-    copied-fails p (fails-not (s .pre .0) z b (l .loop .inv .1 .1))
+returns c = copied-fails (c .before .before .before .before .before .before .copy .ensures) (fails-not (c .before .before .before .before .loop .inv .1 .1))
 
 column-digit-requires : tie.Need-column-digit-requires Inv-loop μ-loop
-column-digit-requires c κs =
-    let l = c .before .before .before .before .before in
-    let p = c .before .before .before .before .before .before .before .copy .ensures in
-    let s = c .before .before .before .before .before .before .before .before .before in
-    let z = p .long ∙ s .pre .1 .0 in
-    let b = copied-start p (s .args .a .now) (s .pre .1 .1) in
-    digit-asks (s .pre .0) z b (l .loop .inv .1 .1)
+column-digit-requires c κs = digit-asks (c .before .before .before .before .before .loop .inv .1 .1)
 
 add-t : tie.Need-add-t Inv-loop μ-loop
 add-t c = omega arith
@@ -64,58 +40,24 @@ loop-less : tie.Need-loop-less Inv-loop μ-loop
 loop-less c = omega arith
 
 loop-again : tie.Need-loop-again Inv-loop μ-loop
-loop-again c =
-    let l = c .before .before .before .before .before .before .before in
-    let p = c .before .before .before .before .before .before .before .before .before .copy .ensures in
-    let s = c .before .before .before .before .before .before .before .before .before .before .before in
-    let z = p .long ∙ s .pre .1 .0 in
-    let b = copied-start p (s .args .a .now) (s .pre .1 .1) in
-    (omega arith, (omega arith, linear-more (s .pre .0) z b (l .loop .inv .1 .1) (c .before .column-digit .ensures)))
+loop-again c = (omega arith, (omega arith, linear-more (c .before .before .before .before .before .before .before .loop .inv .1 .1) (c .before .column-digit .ensures)))
 
 vanishes-requires-2 : tie.Need-vanishes-requires-2 Inv-loop μ-loop
-vanishes-requires-2 c κs =
-    let l = c .before .before in
-    let p = c .before .before .before .before .copy .ensures in
-    let s = c .before .before .before .before .before .before in
-    let z = p .long ∙ s .pre .1 .0 in
-    let b = copied-start p (s .args .a .now) (s .pre .1 .1) in
-    (s .pre .0 .order, in-buffer 2 (s .pre .0 .order .upto) (omega arith) (l .loop .inv .1 .1 .long))
+vanishes-requires-2 c κs = let q = c .before .before .loop .inv .1 .1 in (q .law .order, in-buffer 2 (q .law .order .upto) (omega arith) (q .long))
 
 same-length-2 : tie.Need-same-length-2 Inv-loop μ-loop
-same-length-2 c =
-    let l = c .before .before .before .before in
-    let p = c .before .before .before .before .before .before .copy .ensures in
-    let s = c .before .before .before .before .before .before .before .before in
-    let z = p .long ∙ s .pre .1 .0 in
-    let b = copied-start p (s .args .a .now) (s .pre .1 .1) in
-    l .loop .inv .1 .1 .long ∙ sym (s .pre .1 .0)
+same-length-2 c = c .before .before .before .before .loop .inv .1 .1 .long ∙ sym (c .before .before .before .before .before .before .before .before .pre .1 .0)
 
 returns-2 : tie.Need-returns-2 Inv-loop μ-loop
-returns-2 c =
-    let l = c .before .before .before .before in
-    let p = c .before .before .before .before .before .before .copy .ensures in
-    let s = c .before .before .before .before .before .before .before .before in
-    let z = p .long ∙ s .pre .1 .0 in
-    let b = copied-start p (s .args .a .now) (s .pre .1 .1) in
-    copied-fails p (fails-not (s .pre .0) z b (l .loop .inv .1 .1))
+returns-2 c = copied-fails (c .before .before .before .before .before .before .copy .ensures) (fails-not (c .before .before .before .before .loop .inv .1 .1))
 
 same-length-3 : tie.Need-same-length-3 Inv-loop μ-loop
-same-length-3 c =
-    let l = c .before .before .before .before in
-    let p = c .before .before .before .before .before .before .copy .ensures in
-    let s = c .before .before .before .before .before .before .before .before in
-    let z = p .long ∙ s .pre .1 .0 in
-    let b = copied-start p (s .args .a .now) (s .pre .1 .1) in
-    l .loop .inv .1 .1 .long ∙ sym (s .pre .1 .0)
+same-length-3 c = c .before .before .before .before .loop .inv .1 .1 .long ∙ sym (c .before .before .before .before .before .before .before .before .pre .1 .0)
 
 returns-3 : tie.Need-returns-3 Inv-loop μ-loop
 returns-3 c =
-    let l = c .before .before .before .before in
-    let p = c .before .before .before .before .before .before .copy .ensures in
-    let s = c .before .before .before .before .before .before .before .before in
-    let z = p .long ∙ s .pre .1 .0 in
-    let b = copied-start p (s .args .a .now) (s .pre .1 .1) in
-    copied-fails p (fails-so (s .pre .0) z b (l .loop .inv .1 .1) (omega arith) (l .loop .inv .0) (c .before .vanishes2 .ensures .no (c .if2 .left)))
+    let l = c .before .before .before .before .loop .inv in
+    copied-fails (c .before .before .before .before .before .before .copy .ensures) (fails-so (l .1 .1) (omega arith) (l .0) (c .before .vanishes2 .ensures .no (c .if2 .left)))
 
 pub fails-spec : {M : Type 1} → statement M
 fails-spec =
