@@ -6,7 +6,7 @@ import exact
 import grammar
 from library import flat
 
-SEED, COUNT, ROOM = 20261117, 5000, 20000
+SEED, COUNT, ROOM = 20261117, 5000, 14352  # so much room holds every report
 
 CASES = [  # document 01, 'Tried by hand'
     (b"", (9, 1, 1, 2)), (b"33", (9, 1, 2, 1)), (b"1\n1048577", (9, 2, 7, 1)), (b"2\n1 0\n0 01", (9, 3, 4, 1)), (b"1\n1", (9, 2, 2, 2)),
@@ -110,4 +110,12 @@ def checks(lib):
                 assert lib.read(text, table) == ((3, 0, 0, 0), table)
         return "15 calls"
 
-    return [cases_of_the_document, damaged_sheets, every_beginning, huge_texts, tables_of_another_length]
+    def outputs_of_another_length():
+        for text in (THIN, b"", b"x"):
+            for room in (0, 1, len(THIN_REPORT), ROOM - 1):
+                assert lib.report(text, room) == (0, b"\x5a" * room), (text, room)
+            whole = report(text, grammar.parse(text))
+            assert lib.report(text, 20000) == (len(whole), whole + b"\x5a" * (20000 - len(whole))), text
+        return "15 calls"
+
+    return [cases_of_the_document, damaged_sheets, every_beginning, huge_texts, tables_of_another_length, outputs_of_another_length]

@@ -3,14 +3,12 @@ ghost use Rattle.certify.specs.Program.{Asked, Answers};
 use libc::STDIN_FILENO;
 use libc::STDOUT_FILENO;
 
-// So many bytes of a text decide, and so many hold every report.
+// So many bytes of a text decide.
 const TEXT_MOST: usize = 9220;
-
-const REPORT_MOST: usize = 14352;
 
 fn main() {
     let mut text = [0u8; TEXT_MOST];
-    let mut out = [0u8; REPORT_MOST];
+    let mut out = [0u8; reports::ROOM];
     let read = io::read_full(STDIN_FILENO, &mut text);
     let count = answer(&text, read, &mut out);
     io::write_all(STDOUT_FILENO, &out[..count]);

@@ -12,7 +12,8 @@ use Rattle.sheets.specs.declared.Place.{Place}
 use Rattle.sheets.specs.declared.Answer.{Answer}
 use Rattle.sheets.specs.declared.Answer.the-variants.{Sheet, Length, Refused}
 use Rattle.sheets.proofs.Uses.{Means, read-means}
-use Rattle.reports.specs.Report.{figures, IsCertificate, IsReport, no-sheet, of-sheet, Puts}
+use Rattle.reports.specs.Report.{figures, IsCertificate, IsReport, no-sheet, of-sheet}
+use Rattle.reports.specs.Parts.{Puts}
 use Rattle.reports.proofs.Places.{place-near}
 
 module _ {t : List ℕ} {old new : List ℤ} (a : Answer) (size : length old ≡ 1024) (says : ReadSays t old (figuresOf a) new) where

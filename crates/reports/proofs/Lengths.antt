@@ -1,14 +1,13 @@
 -- A report has at most 14,352 bytes: 16 of the first line, and 14 for each of 1,024 figures of at most 12 digits. So a buffer of 14,352 has
 -- room for it.
 use mathlib.Core.Path.{_≡_, sym, ap, _∙_, subst}
-use mathlib.Core.List.{List, [], _∷_}
+use mathlib.Core.List.{List, [], _∷_, _++_}
 use Prim.Native.Nat.{ℕ, zero, suc, _+_, _-_, _*_, _^_, _≤_, _<_}
 use native.Mathlib.Nat.{zero-lt-suc}
 use native.Mathlib.Decide.{ℕ-discrete}
 use native.Mathlib.Omega.{arith}
 use lib.IntN.{ℤ, pos, natAbs}
-use lib.ListN.{length, take, drop, getD, length-append, length-take}
-use lib.Seq.{take-at}
+use lib.ListN.{length, drop, getD, length-append}
 use Rattle.numbers.specs.Limits.{IsOrder}
 use Rattle.tables.specs.Tables.{entries}
 use Rattle.tables.specs.Checks.{Lawful}
@@ -20,8 +19,9 @@ use Rattle.verdict.specs.Verdict.{Narrow}
 use Rattle.verdict.specs.declared.Outcome.{Outcome}
 use Rattle.sheets.specs.Sheet.{line, rows}
 use Rattle.sheets.proofs.Text.Lengths.{Below, line-most, rows-most}
-use Rattle.sheets.proofs.Bytes.Puts.{put-length, put-whole}
-use Rattle.reports.specs.Report.{figures, after0, answerLine, IsCertificate, IsReport, no-sheet, of-sheet, Puts}
+use Rattle.sheets.proofs.Bytes.Puts.{put-whole}
+use Rattle.reports.specs.Report.{figures, after0, answerLine, IsCertificate, IsReport, no-sheet, of-sheet, ReportGives, room}
+use Rattle.reports.specs.Parts.{Puts}
 use Rattle.verdict.proofs.Figures.{number-most, exponent-most, lifts-most}
 use Rattle.verdict.proofs.Refusals.{inverse-narrow}
 use Rattle.reports.proofs.Places.{Near, near, refusal-near}
@@ -72,13 +72,9 @@ pub report-short : {t R : List ℕ} → IsReport t R → length R ≤ 14352
 report-short (no-sheet fs h) = omega (arith, refusal-short (refusal-near h))
 report-short (of-sheet n es R h c) = certificate-short (record { order = h .order; size = h .count; legal = h .legal }) c
 
--- what is put stands in the buffer
-pub puts-within : {P : List ℕ → Type 0} {old new : List ℕ} {r : ℕ} → Puts P old r new → r ≤ length new
-puts-within {P} {old} h = omega (arith, h .put .next, length-take (length old - 0) (h .text), put-length (h .text) (h .put))
-
--- a buffer of that length begins with the whole report
-pub report-whole : {t old new : List ℕ} {r : ℕ} → 14352 ≤ length old → Puts (IsReport t) old r new → IsReport t (take r new)
-report-whole {t} {old} {new} {r} room h =
+-- so a buffer of that length has room for it
+pub report-put : {t old new : List ℕ} {r : ℕ} → 14352 ≤ length old → Puts (IsReport t) old r new → ReportGives t old r new
+report-put {t} {old} {new} {r} l h =
     let p = put-whole {at = 0} (h .text) (omega (arith, report-short (h .right))) (h .put) in
-    let e : r ≡ length (h .text) = omega (arith, p .0) in
-    subst (IsReport t) (sym (ap (take r) (p .1) ∙ take-at (h .text) (drop (0 + length (h .text)) old) r (sym e))) (h .right)
+    let e : ReportGives t old (length (h .text)) (h .text ++ drop (length (h .text)) old) = room (h .text) l (h .right) in
+    simp (p .0, p .1, native.Mathlib.Nat.zero-add) e

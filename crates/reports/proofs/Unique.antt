@@ -4,8 +4,9 @@ use mathlib.Core.Logic.{_≢_}
 use mathlib.Core.List.{List, _++_}
 use Prim.Native.Nat.{ℕ}
 use native.Mathlib.Decide.{ℕ-discrete}
+use native.Mathlib.Omega.{arith}
 use lib.IntN.{ℤ}
-use lib.ListN.{length}
+use lib.ListN.{length, drop}
 use Rattle.numbers.specs.Refusals.{Gives}
 use Rattle.verdict.specs.Verdict.{inverseRefusals, InverseGives}
 use Rattle.verdict.specs.declared.Outcome.{Outcome}
@@ -13,10 +14,8 @@ use Rattle.verdict.proofs.Unique.{inverse-call-unique}
 use Rattle.sheets.specs.Sheet.{rows}
 use Rattle.sheets.specs.declared.Answer.{Answer}
 use Rattle.sheets.specs.declared.Answer.the-variants.{Sheet, Length, Refused}
-use Rattle.sheets.specs.Writing.{Put}
-use Rattle.sheets.proofs.Bytes.Puts.{put-unique}
 use Rattle.sheets.proofs.Unique.{read-unique}
-use Rattle.reports.specs.Report.{answerLine, certificate, IsCertificate, IsReport, Puts}
+use Rattle.reports.specs.Report.{answerLine, certificate, IsCertificate, IsReport, ReportGives, no-room, room}
 use Rattle.reports.proofs.Writing.{after-other}
 use Rattle.reports.proofs.Reading.{blank, Shows, reading}
 
@@ -61,6 +60,9 @@ report-unique {t} {R} {R′} h k =
     shows-unique (r .answer) (r .left) R R′ (r .shows)
     (subst (λ (a : Answer). Shows a (r .left) R′) (u .0) (subst (λ (E : List ℤ). Shows (s .answer) E R′) (u .1) (s .shows)))
 
-pub puts-unique : {t old new new′ : List ℕ} {r r′ : ℕ} → Puts (IsReport t) old r new → Puts (IsReport t) old r′ new′ → (r ≡ r′) × (new ≡ new′)
-puts-unique {t} {old} {new} {new′} {r} {r′} h k =
-    put-unique (h .put) (subst (λ (w : List ℕ). Put old 0 w r′ new′) (report-unique (k .right) (h .right)) (k .put))
+pub report-call-unique : {t old new new′ : List ℕ} {r r′ : ℕ} → ReportGives t old r new → ReportGives t old r′ new′ → (r ≡ r′) × (new ≡ new′)
+report-call-unique (no-room l) (no-room m) = (refl, refl)
+report-call-unique (no-room l) (room R m h) = absurd (omega arith)
+report-call-unique (room R l h) (no-room m) = absurd (omega arith)
+report-call-unique {t} {old} (room R l h) (room R′ m k) =
+    let e = report-unique h k in (ap length e, ap (λ (w : List ℕ). w ++ drop (length w) old) e)

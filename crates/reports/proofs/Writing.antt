@@ -14,7 +14,8 @@ use Rattle.verdict.specs.declared.Outcome.{Outcome}
 use Rattle.sheets.specs.Sheet.{line, rows}
 use Rattle.sheets.specs.Writing.{Put}
 use Rattle.sheets.proofs.Bytes.Puts.{put-join}
-use Rattle.reports.specs.Report.{figures, after0, answerLine, certificate, IsCertificate, Puts}
+use Rattle.reports.specs.Report.{figures, after0, answerLine, certificate, IsCertificate}
+use Rattle.reports.specs.Parts.{Puts}
 
 -- what the machine reads back of four figures
 pub put-read : {old new : List ℕ} {r a b c d : ℕ} → SFits w64 (pos a) → SFits w64 (pos b) → SFits w64 (pos c) → SFits w64 (pos d)

@@ -5,17 +5,17 @@
 --   certificate n o E      this line, and after 0 the inverse E, n lines of n figures
 --   IsCertificate n es R   R is the certificate of what the inverse call gives for the entries es, lent n² numbers
 --   IsReport t R           R is the report of the text t: the line of 9, line, column and reason, or the certificate of a sheet
---   Puts P old r new       the first r bytes of new are a text with the property P, as far as it has room, and the others are as in old
+--   ReportGives t old r new    what report gives and leaves of the lent output old: where it has fewer than 14,352 bytes, 0 and the output as it was; else
+--                          the report of t first in it, with its length, and the bytes after it as they were
 use mathlib.Core.Path.{_≡_}
 use mathlib.Core.List.{List, [], _∷_, _++_}
-use Prim.Native.Nat.{ℕ, zero, suc, _*_}
+use Prim.Native.Nat.{ℕ, zero, suc, _*_, _≤_, _<_}
 use lib.IntN.{ℤ, pos}
-use lib.ListN.{length}
+use lib.ListN.{length, drop}
 use Rattle.verdict.specs.Verdict.{InverseGives}
 use Rattle.verdict.specs.declared.Outcome.{Outcome}
 use Rattle.sheets.specs.Sheet.{line, rows, IsSheet}
 use Rattle.sheets.specs.Answer.{NoSheet}
-use Rattle.sheets.specs.Writing.{Put}
 
 abbrev pub figures : List ℕ → List ℤ
 figures [] = []
@@ -43,7 +43,6 @@ pub data IsReport (t : List ℕ) : List ℕ → Type 0 where
   no-sheet : (fs : List ℕ) → NoSheet t fs → IsReport t (line (figures (9 ∷ fs)))
   of-sheet : (n : ℕ) (es : List ℤ) (R : List ℕ) → IsSheet t n es → IsCertificate n es R → IsReport t R
 
-pub record Puts (P : List ℕ → Type 0) (old : List ℕ) (r : ℕ) (new : List ℕ) : Type 0 where
-  pub text : List ℕ
-  pub right : P text
-  pub put : Put old 0 text r new
+pub data ReportGives (t old : List ℕ) : ℕ → List ℕ → Type 0 where
+  no-room : length old < 14352 → ReportGives t old 0 old
+  room : (R : List ℕ) → 14352 ≤ length old → IsReport t R → ReportGives t old (length R) (R ++ drop (length R) old)

@@ -7,10 +7,24 @@ ghost use Rattle.numbers.specs.Limits.{IsOrder};
 ghost use Rattle.sheets.specs.Sheet.{line};
 ghost use Rattle.sheets.specs.Answer.{placeOf};
 ghost use Rattle.sheets.specs.Writing.{Put};
-ghost use Rattle.reports.specs.Report.{figures, IsCertificate, IsReport, Puts};
+ghost use Rattle.reports.specs.Report.{figures, IsCertificate, IsReport, ReportGives};
+ghost use Rattle.reports.specs.Parts.{Puts};
 
-// Puts the report of the text at the start of out, as far as it has room there, and gives the count of its bytes.
+// So many bytes have room for every report.
+pub const ROOM: usize = 14352;
+
+// Puts the report of the text at the start of out and gives the count of its bytes; in less room than every report needs, puts nothing and gives 0.
 pub fn report(text: &[u8], out: &mut [u8]) -> usize
+    ensures { λ r. ⌜ ReportGives (now (text .entry)) (now (out .entry)) r (now (out .exit)) ⌝ }
+{
+    if out.len() < ROOM {
+        return 0;
+    }
+    put_report(text, out)
+}
+
+// The report of the text at the start of out, as far as it has room.
+fn put_report(text: &[u8], out: &mut [u8]) -> usize
     ensures { λ r. ⌜ Puts (IsReport (now (text .entry))) (now (out .entry)) r (now (out .exit)) ⌝ }
 {
     let mut table = [0i64; numbers::MOST_CELLS];
