@@ -1,7 +1,5 @@
 // Lifting: the sparse inverse expansion of a table of whole numbers.
-ghost use mathlib.Core.Path.{_≡_};
 ghost use Prim.Native.Nat.{_+_, _*_, _^_, _<_};
-ghost use lib.ListN.{length};
 ghost use Rattle.numbers.specs.Says.{Tells};
 ghost use Rattle.tables.specs.Tables.{entries};
 ghost use Rattle.lifting.specs.Lifting.{LiftGives};

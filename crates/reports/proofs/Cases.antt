@@ -5,9 +5,9 @@ use Prim.Native.Nat.{ℕ, _*_}
 use Prim.Native.Char.{code}
 use Prim.Native.String.{String, [] as none, _∷_ as _then_}
 use lib.IntN.{ℤ, pos}
-use lib.ListN.{take, drop}
+use lib.ListN.{drop}
 use lib.Seq.{take-at}
-use Rattle.tables.specs.Checks.{Lawful}
+use Rattle.numbers.specs.Limits.{Lawful}
 use Rattle.tables.proofs.Checking.Lawful.{lawful-sound}
 use Rattle.verdict.specs.Verdict.{answer}
 use Rattle.verdict.specs.Starred.{minus, thin}

@@ -1,16 +1,15 @@
 -- A report has at most 14,352 bytes: 16 of the first line, and 14 for each of 1,024 figures of at most 12 digits. So a buffer of 14,352 has
 -- room for it.
-use mathlib.Core.Path.{_≡_, sym, ap, _∙_, subst}
+use mathlib.Core.Path.{_≡_, sym, ap, subst}
 use mathlib.Core.List.{List, [], _∷_, _++_}
-use Prim.Native.Nat.{ℕ, zero, suc, _+_, _-_, _*_, _^_, _≤_, _<_}
+use Prim.Native.Nat.{ℕ, suc, _+_, _*_, _^_, _≤_, _<_}
 use native.Mathlib.Nat.{zero-lt-suc}
 use native.Mathlib.Decide.{ℕ-discrete}
 use native.Mathlib.Omega.{arith}
 use lib.IntN.{ℤ, pos, natAbs}
 use lib.ListN.{length, drop, getD, length-append}
-use Rattle.numbers.specs.Limits.{IsOrder}
+use Rattle.numbers.specs.Limits.{IsOrder, Lawful}
 use Rattle.tables.specs.Tables.{entries}
-use Rattle.tables.specs.Checks.{Lawful}
 use Rattle.tables.specs.Buffer.{Low}
 use Rattle.tables.proofs.Buffers.Places.{square-small}
 use Rattle.tables.proofs.Buffers.Kernels.{low-flat, low-≈}

@@ -1,11 +1,10 @@
 -- A refusal lies within the first 9,220 bytes, for a beginning has at most 9,219: so line and column are at most 9,220.
 use mathlib.Core.Path.{_≡_, refl}
-use mathlib.Core.List.{List, [], _∷_, _++_}
-use Prim.Native.Nat.{ℕ, _+_, _≤_}
+use mathlib.Core.List.{List, [], _∷_}
+use Prim.Native.Nat.{ℕ, _≤_}
 use native.Mathlib.Omega.{arith}
-use lib.ListN.{length, take, length-append}
+use lib.ListN.{length, take}
 use lib.Seq.{length-take-le}
-use Rattle.sheets.specs.Sheet.{IsBeginning}
 use Rattle.sheets.specs.Place.{lineAt, columnAt}
 use Rattle.sheets.specs.Answer.{NoSheet, byte, ended, placeOf}
 use Rattle.sheets.specs.declared.Place.{Place}

@@ -1,21 +1,20 @@
 // The kernels: work on tables of order n in one buffer, each named by its block number.
 ghost use mathlib.Core.Path.{_≡_};
 ghost use mathlib.Core.Bool.{true, false};
-ghost use Prim.Native.Nat.{ℕ, _+_, _*_, _-_, _^_, _≤_, _<_};
-ghost use lib.IntN.{ℤ, pos, _+ℤ_, _-ℤ_, _*ℤ_};
+ghost use Prim.Native.Nat.{ℕ, _+_, _*_, _^_, _≤_, _<_};
+ghost use lib.IntN.{pos, _+ℤ_, _*ℤ_};
 ghost use lib.ListN.{length, getD};
-ghost use lib.Signed.{shrZ};
 ghost use Rattle.numbers.specs.Numbers.{δ};
 ghost use Rattle.numbers.specs.Limits.{IsOrder};
 ghost use Rattle.numbers.specs.Remainder.{rem};
 ghost use Rattle.numbers.specs.Says.{Tells};
-ghost use Rattle.tables.specs.Tables.{_·⟨_⟩_, _≈⟨_⟩_, entries, block, tableAt};
-ghost use Rattle.tables.specs.Buffer.{Low, RowLow, Has, Dot, Product, Remain, Shrink, shrunk, Put, RowPut, Balance, Extend, Copied};
+ghost use Rattle.tables.specs.Tables.{_·⟨_⟩_, _≈⟨_⟩_, block, tableAt};
+ghost use Rattle.tables.specs.Buffer.{Low, RowLow, Has, Dot, Product, Remain, Shrink, shrunk, BlockPut, RowPut, Balance, Extend, Copied};
 
 // Block o becomes the product of blocks p and q.
 pub fn product(n: usize, buf: &mut [i64], p: usize, q: usize, o: usize)
     requires { ⌜ Product n (now buf) p q o ⌝ }
-    ensures { λ _. ⌜ Put n (block n (now (buf .entry)) p ·⟨ n ⟩ block n (now (buf .entry)) q) o (now (buf .entry)) (now (buf .exit)) ⌝ }
+    ensures { λ _. ⌜ BlockPut n (block n (now (buf .entry)) p ·⟨ n ⟩ block n (now (buf .entry)) q) o (now (buf .entry)) (now (buf .exit)) ⌝ }
 {
     let mut i: usize = 0;
     while i < n {
@@ -44,7 +43,7 @@ fn product_row(n: usize, buf: &mut [i64], p: usize, q: usize, o: usize, i: usize
 // Block o becomes the balanced remainder by 2^e of the product of blocks p and q.
 pub fn remain(n: usize, e: u32, buf: &mut [i64], p: usize, q: usize, o: usize)
     requires { ⌜ Remain n e (now buf) p q o ⌝ }
-    ensures { λ _. ⌜ Put n (λ (i j : ℕ). rem (2 ^ e) ((block n (now (buf .entry)) p ·⟨ n ⟩ block n (now (buf .entry)) q) i j)) o (now (buf .entry)) (now (buf .exit)) ⌝ }
+    ensures { λ _. ⌜ BlockPut n (λ (i j : ℕ). rem (2 ^ e) ((block n (now (buf .entry)) p ·⟨ n ⟩ block n (now (buf .entry)) q) i j)) o (now (buf .entry)) (now (buf .exit)) ⌝ }
 {
     let mut y = [0u32; 1024];
     let m = n * n;
@@ -56,7 +55,7 @@ pub fn remain(n: usize, e: u32, buf: &mut [i64], p: usize, q: usize, o: usize)
 // Block s becomes itself less a times block m, divided by 2^e and rounded down.
 pub fn shrink(n: usize, e: u32, a: &[i64], buf: &mut [i64], m: usize, s: usize)
     requires { ⌜ Shrink n e (now a) (now buf) m s × Low n (2 ^ 62) (block n (now buf) s) ⌝ }
-    ensures { λ _. ⌜ Put n (shrunk n e (now (a .entry)) (now (buf .entry)) m s) s (now (buf .entry)) (now (buf .exit)) ⌝ }
+    ensures { λ _. ⌜ BlockPut n (shrunk n e (now (a .entry)) (now (buf .entry)) m s) s (now (buf .entry)) (now (buf .exit)) ⌝ }
 {
     let mut i: usize = 0;
     while i < n {
@@ -85,7 +84,7 @@ fn shrink_row(n: usize, e: u32, a: &[i64], buf: &mut [i64], m: usize, s: usize, 
 // Block o becomes its balanced remainder by 2^e.
 pub fn balance(n: usize, e: u32, buf: &mut [i64], o: usize)
     requires { ⌜ Balance n e (now buf) o ⌝ }
-    ensures { λ _. ⌜ Put n (λ (i j : ℕ). rem (2 ^ e) (block n (now (buf .entry)) o i j)) o (now (buf .entry)) (now (buf .exit)) ⌝ }
+    ensures { λ _. ⌜ BlockPut n (λ (i j : ℕ). rem (2 ^ e) (block n (now (buf .entry)) o i j)) o (now (buf .entry)) (now (buf .exit)) ⌝ }
 {
     let m = n * n;
     let oa = o * m;
@@ -100,7 +99,7 @@ pub fn balance(n: usize, e: u32, buf: &mut [i64], o: usize)
 // 2^e times block d is added to block c.
 pub fn extend(n: usize, e: u32, buf: &mut [i64], c: usize, d: usize)
     requires { ⌜ Extend n e (now buf) c d ⌝ }
-    ensures { λ _. ⌜ Put n (λ (i j : ℕ). block n (now (buf .entry)) c i j +ℤ pos (2 ^ e) *ℤ block n (now (buf .entry)) d i j) c (now (buf .entry)) (now (buf .exit)) ⌝ }
+    ensures { λ _. ⌜ BlockPut n (λ (i j : ℕ). block n (now (buf .entry)) c i j +ℤ pos (2 ^ e) *ℤ block n (now (buf .entry)) d i j) c (now (buf .entry)) (now (buf .exit)) ⌝ }
 {
     let m = n * n;
     let ca = c * m;
@@ -117,7 +116,7 @@ pub fn extend(n: usize, e: u32, buf: &mut [i64], c: usize, d: usize)
 // Block o becomes the identity.
 pub fn identity(n: usize, buf: &mut [i64], o: usize)
     requires { ⌜ (IsOrder n) × (Has n (now buf) o) ⌝ }
-    ensures { λ _. ⌜ Put n δ o (now (buf .entry)) (now (buf .exit)) ⌝ }
+    ensures { λ _. ⌜ BlockPut n δ o (now (buf .entry)) (now (buf .exit)) ⌝ }
 {
     let mut i: usize = 0;
     while i < n {

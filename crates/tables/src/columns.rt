@@ -1,7 +1,5 @@
 // Work on the first column of blocks alone: that of a residue is known without the others.
-ghost use mathlib.Core.Path.{_≡_};
 ghost use Prim.Native.Nat.{ℕ, _*_, _^_, _<_};
-ghost use lib.IntN.{ℤ, pos};
 ghost use Rattle.numbers.specs.Limits.{IsOrder};
 ghost use Rattle.numbers.specs.Remainder.{rem};
 ghost use Rattle.numbers.specs.Says.{Tells};

@@ -4,7 +4,7 @@ ghost use lib.ListN.{length, getD};
 ghost use lib.IntN.{pos};
 ghost use Rattle.numbers.specs.Remainder.{residue};
 ghost use Rattle.tables.specs.Tables.{block};
-ghost use Rattle.tables.specs.Buffer.{Put, RowPut, Wrote};
+ghost use Rattle.tables.specs.Buffer.{BlockPut, RowPut, Wrote};
 ghost use Rattle.tables.specs.Residues.{Takes, Folds, Products, rowTimes, product32};
 
 // The residues of m numbers from place p on.
@@ -22,7 +22,7 @@ pub fn take(m: usize, a: &[i64], p: usize, t: &mut [u32])
 // Block o becomes the product of block p and the table of residues y, in residues.
 pub fn product(n: usize, y: &[u32], buf: &mut [i64], p: usize, o: usize)
     requires { ⌜ Products n (now y) (now buf) p o ⌝ }
-    ensures { λ _. ⌜ Put n (product32 n (block n (now (buf .entry)) p) (now (y .entry))) o (now (buf .entry)) (now (buf .exit)) ⌝ }
+    ensures { λ _. ⌜ BlockPut n (product32 n (block n (now (buf .entry)) p) (now (y .entry))) o (now (buf .entry)) (now (buf .exit)) ⌝ }
 {
     let mut i: usize = 0;
     while i < n {

@@ -9,10 +9,10 @@ use native.Mathlib.Numerals.{add-one}
 use native.Mathlib.Omega.{arith}
 use lib.IntN.{ℤ, pos, natAbs}
 use lib.ListN.{length}
+use Rattle.numbers.specs.Limits.{Lawful}
 use Rattle.numbers.proofs.Algebra.Sum.{δ}
 use Rattle.numbers.proofs.Remainders.Remainder.{rem-is}
 use Rattle.tables.specs.Tables.{Matrix, Below, _≈⟨_⟩_, _·⟨_⟩_, _⊞_, _⊟_, _⊙_, block, entries, height}
-use Rattle.tables.specs.Checks.{Lawful}
 use Rattle.tables.specs.Columns.{ColumnPut, ColumnZero, ToCopy}
 use Rattle.tables.proofs.Algebra.Matrix.{≈-refl, ≈-sym, ≈-trans}
 use Rattle.tables.proofs.Checking.Heights.{height-at, height-one, legal-height}

@@ -6,10 +6,10 @@ use Prim.Native.Nat.{ℕ, _*_, _≤_}
 use native.Mathlib.Omega.{arith}
 use lib.IntN.{ℤ}
 use lib.ListN.{length}
+use Rattle.numbers.specs.Limits.{Lawful}
 use Rattle.numbers.specs.Refusals.{Gives}
 use Rattle.numbers.proofs.Counting.Leasts.{size-small}
 use Rattle.tables.specs.Tables.{height}
-use Rattle.tables.specs.Checks.{Lawful}
 use Rattle.tables.proofs.Checking.Heights.{height-one, legal-height}
 use Rattle.verdict.specs.Verdict.{Told, after-0, after-7, after-8, inverseRefusals, InverseGives}
 use Rattle.verdict.specs.declared.Outcome.{Outcome}

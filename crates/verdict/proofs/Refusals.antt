@@ -7,12 +7,11 @@ use native.Mathlib.Omega.{arith}
 use native.Mathlib.Decide.{ℕ-discrete, decLe}
 use lib.IntN.{ℤ, natAbs}
 use lib.ListN.{length}
-use Rattle.numbers.specs.Limits.{IsOrder, Legal}
+use Rattle.numbers.specs.Limits.{IsOrder, Legal, Lawful}
 use Rattle.numbers.specs.Refusals.{Gives, Lowest}
-use Rattle.numbers.proofs.Answers.Refusals.{gives-lowest}
+use Rattle.numbers.proofs.Answers.Refusals.{gives-lowest, learnt}
 use Rattle.numbers.specs.Numbers.{IsNeed, IsLifts}
 use Rattle.tables.specs.Tables.{entries, height, HasWholeInverse}
-use Rattle.tables.specs.Checks.{Lawful}
 use Rattle.lifting.specs.Steps.{Stage}
 use Rattle.tables.proofs.Inverses.TwoSided.{inverse-unique}
 use Rattle.tables.proofs.Checking.Views.{both?, order?}
@@ -154,31 +153,19 @@ stable : {P : Type 0} → Dec P → ¬ ¬ P → P
 stable (yes p) f = p
 stable (no g) f = absurd (f g)
 
--- what a yes has let pass
-pub passed : (n : ℕ) (A : List ℤ) → Gives (verdictRefusals n A) 0 → Lawful n A
-passed n A (inl (f, e)) = absurd (omega arith)
-passed n A (inr (o, inl (f, e))) = absurd (omega arith)
-passed n A (inr (o, inr (a, inl (f, e)))) = absurd (omega arith)
-passed n A (inr (o, inr (a, inr (p, g)))) =
-    record { order = stable (order? n) o; size = stable (ℕ-discrete (length A) (n * n)) a; legal = stable (legal? A) p }
+-- what a yes has let pass, and a no
+lawful : {n : ℕ} {A : List ℤ} → ¬ ¬ IsOrder n → ¬ (length A ≢ n * n) → ¬ ¬ Legal A → Lawful n A
+lawful {n} {A} o s l = record { order = stable (order? n) o; size = stable (ℕ-discrete (length A) (n * n)) s; legal = stable (legal? A) l }
 
--- and a no
+pub passed : (n : ℕ) (A : List ℤ) → Gives (verdictRefusals n A) 0 → Lawful n A
+passed n A g = let k = learnt 0 (verdictRefusals n A) 0 (omega arith) g in lawful (k .0) (k .1 .0) (k .1 .1 .0)
+
 pub passed-no : (n : ℕ) (A : List ℤ) → Gives (verdictRefusals n A) 7 → Lawful n A × ¬ HasWholeInverse n (entries n A)
-passed-no n A (inl (f, e)) = absurd (omega arith)
-passed-no n A (inr (o, inl (f, e))) = absurd (omega arith)
-passed-no n A (inr (o, inr (a, inl (f, e)))) = absurd (omega arith)
-passed-no n A (inr (o, inr (a, inr (p, inl (f, e))))) =
-    (record { order = stable (order? n) o; size = stable (ℕ-discrete (length A) (n * n)) a; legal = stable (legal? A) p }, f)
-passed-no n A (inr (o, inr (a, inr (p, inr (w, e))))) = absurd (omega arith)
+passed-no n A g = let k = learnt 0 (verdictRefusals n A) 7 (omega arith) g in (lawful (k .0) (k .1 .0) (k .1 .1 .0), k .1 .1 .1)
 
 -- an inverse that is given is narrow
 not-wide : (n : ℕ) (A L : List ℤ) → Gives (inverseRefusals n A L) 0 → ¬ TooWide n (entries n A)
-not-wide n A L (inl (f, e)) = absurd (omega arith)
-not-wide n A L (inr (o, inl (f, e))) = absurd (omega arith)
-not-wide n A L (inr (o, inr (a, inl (f, e)))) = absurd (omega arith)
-not-wide n A L (inr (o, inr (a, inr (p, inl (f, e))))) = absurd (omega arith)
-not-wide n A L (inr (o, inr (a, inr (p, inr (w, inl (f, e)))))) = absurd (omega arith)
-not-wide n A L (inr (o, inr (a, inr (p, inr (w, inr (f, e)))))) = f
+not-wide n A L g = learnt 0 (inverseRefusals n A L) 0 (omega arith) g .1 .1 .1 .1 .0
 
 pub inverse-narrow : {n : ℕ} {A L : List ℤ} {o : Outcome} {E : List ℤ} → InverseGives n A L o E → o .number ≡ 0 → Narrow n (entries n E)
 inverse-narrow {n} {A} {L} {o} {E} p z i j h k =

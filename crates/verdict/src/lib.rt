@@ -1,11 +1,10 @@
 // Verdict and inverse.
 ghost use mathlib.Core.Path.{_≡_};
-ghost use Prim.Native.Nat.{_+_, _*_, _^_, _<_};
+ghost use Prim.Native.Nat.{_*_, _^_, _<_};
 ghost use lib.ListN.{length};
 ghost use Rattle.tables.specs.Tables.{entries, block, HasWholeInverse};
-ghost use Rattle.numbers.specs.Limits.{IsOrder};
+ghost use Rattle.numbers.specs.Limits.{IsOrder, Lawful};
 ghost use Rattle.numbers.specs.Says.{Says, Tells};
-ghost use Rattle.tables.specs.Checks.{Lawful};
 ghost use Rattle.numbers.specs.Numbers.{IsLifts};
 ghost use Rattle.lifting.specs.Lifting.{IsStart};
 ghost use Rattle.lifting.specs.Steps.{Stage};

@@ -9,10 +9,10 @@ use native.Mathlib.Nat.{mul-le-mul, mul-le-mul-right, le-refl}
 use lib.Pow.{pow-mono}
 use lib.IntN.{ℤ, pos}
 use lib.ListN.{length}
+use Rattle.numbers.specs.Limits.{Lawful}
 use Rattle.numbers.specs.Numbers.{Enough}
 use Rattle.tables.specs.Tables.{Matrix, _≈⟨_⟩_, block, entries, height, HasInverseMod}
 use Rattle.tables.specs.Buffer.{Low}
-use Rattle.tables.specs.Checks.{Lawful}
 use Rattle.tables.proofs.Buffers.Kernels.{low-≈}
 use Rattle.tables.proofs.Buffers.Places.{square-small}
 use Rattle.tables.proofs.Checking.Heights.{height-at, legal-height}

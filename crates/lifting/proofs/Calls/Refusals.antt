@@ -11,7 +11,7 @@ use lib.IntN.{ℤ}
 use lib.ListN.{length}
 use Rattle.numbers.specs.Limits.{IsOrder, Legal}
 use Rattle.numbers.specs.Refusals.{done, _when_then_, Gives, Lowest}
-use Rattle.numbers.proofs.Answers.Refusals.{gives-lowest}
+use Rattle.numbers.proofs.Answers.Refusals.{gives-lowest, learnt}
 use Rattle.numbers.proofs.Counting.Search.{need, need-is}
 use Rattle.tables.specs.Tables.{height, entries, HasInverseMod}
 use Rattle.lifting.specs.Lifting.{IsExpansion, BelowNeed, liftRefusals, LiftGives}
@@ -103,15 +103,10 @@ module _ {n s e : ℕ} {A L : List ℤ} (r : Ready n s e A (length L)) where
 
 -- after 0 the exponent was enough
 pub lift-enough : {n s e : ℕ} {A L E : List ℤ} → LiftGives n s e A L 0 E → Enough n (height A) e
-lift-enough {n} {s} {e} {A} {L} p = let k = need-is n (height A) in enough-more (k .holds) (go (p .number))
-  where
-    go : Gives (liftRefusals n s e A L) 0 → need n (height A) ≤ e
-    go (inr (_, inr (_, inr (_, inr (_, inr (f, _)))))) = elim (decLe (need n (height A)) e) [
-      | yes l ↦ l
-      | no g ↦ absurd (f (inl (record { need = need n (height A); is-need = need-is n (height A); below = omega arith })))
+lift-enough {n} {s} {e} {A} {L} p =
+    let k = need-is n (height A) in
+    let f = learnt 0 (liftRefusals n s e A L) 0 (omega arith) (p .number) .1 .1 .1 .1 .0 in
+    elim (decLe (need n (height A)) e) [
+      | yes l ↦ enough-more (k .holds) l
+      | no g ↦ absurd (f (inl (record { need = need n (height A); is-need = k; below = omega arith })))
     ]
-    go (inl (_, z)) = absurd (omega arith)
-    go (inr (_, inl (_, z))) = absurd (omega arith)
-    go (inr (_, inr (_, inl (_, z)))) = absurd (omega arith)
-    go (inr (_, inr (_, inr (_, inl (_, z))))) = absurd (omega arith)
-    go (inr (_, inr (_, inr (_, inr (_, inl (_, z)))))) = absurd (omega arith)

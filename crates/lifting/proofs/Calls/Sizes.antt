@@ -6,12 +6,11 @@ use native.Mathlib.Nat.{le-trans}
 use native.Mathlib.Omega.{arith}
 use lib.IntN.{ℤ}
 use lib.Pow.{pow-pos, pow-mono}
-use Rattle.numbers.specs.Limits.{IsOrder}
+use Rattle.numbers.specs.Limits.{IsOrder, Lawful}
 use Rattle.numbers.specs.Numbers.{Balanced}
 use Rattle.numbers.proofs.Remainders.Remainder.{rem-is, balanced-size}
 use Rattle.tables.specs.Tables.{Matrix, Below, _·⟨_⟩_, block, entries}
 use Rattle.tables.specs.Buffer.{Low, Has, Product}
-use Rattle.tables.specs.Checks.{Lawful}
 use Rattle.tables.proofs.Checking.Heights.{height-at, legal-height}
 use Rattle.tables.proofs.Algebra.Matrix.{·-bound}
 use Rattle.lifting.proofs.Expansions.Rules.{rems}

@@ -14,7 +14,7 @@ use Rattle.numbers.proofs.Remainders.Powers.{power-divides}
 use Rattle.numbers.proofs.Remainders.Remainder.{rem-is}
 use Rattle.numbers.proofs.Algebra.Sum.{δ}
 use Rattle.tables.specs.Tables.{Matrix, _≈⟨_⟩_, _·⟨_⟩_, CongM, block, entries}
-use Rattle.tables.specs.Buffer.{Low, Has, Product, Remain, Balance, Shrink, shrunk, Put}
+use Rattle.tables.specs.Buffer.{Low, Has, Product, Remain, Balance, Shrink, shrunk, BlockPut}
 use Rattle.tables.specs.Inverting.{Inverted}
 use Rattle.tables.proofs.Buffers.Kernels.{low-≈}
 use Rattle.tables.proofs.Algebra.Matrix.{≈-refl, ≈-sym, ≈-trans, ·-cong, ·-idʳ, ⊟-cong, congM-eq, congM-trans}
@@ -39,7 +39,7 @@ shrink-asks s factor target apart low = record {
 
 -- where D = Rem(B·R) stands in block d and R in block r, the division leaves the next residue in block r
 digit-of : (e : ℕ) (A K : List ℤ) (B R : Matrix) {n d r : ℕ} {M : List ℤ} → CongM n (pos (2 ^ e)) (entries n A ·⟨ n ⟩ B) δ → r ≢ d
-    → block n K d ≈⟨ n ⟩ rems (2 ^ e) (B ·⟨ n ⟩ R) → block n K r ≈⟨ n ⟩ R → Put n (shrunk n e A K d r) r K M → IsDigit n (2 ^ e) (entries n A) B R (block n M d) (block n M r)
+    → block n K d ≈⟨ n ⟩ rems (2 ^ e) (B ·⟨ n ⟩ R) → block n K r ≈⟨ n ⟩ R → BlockPut n (shrunk n e A K d r) r K M → IsDigit n (2 ^ e) (entries n A) B R (block n M d) (block n M r)
 digit-of e A K B R {n} {d} right apart there same p =
     digit-resp (digit-exists right R (rems (2 ^ e) (B ·⟨ n ⟩ R)) (λ i j a b. rem-is (2 ^ e) (pow-pos e) ((B ·⟨ n ⟩ R) i j)))
     (≈-refl n B) (≈-refl n R) (≈-sym (≈-trans (p .rest d (λ z. apart (sym z))) there))
@@ -64,7 +64,7 @@ module _ {n e : ℕ} {A L : List ℤ} {r d : ℕ} (q : ToDigit n e A L r d) wher
     low-right = q .low;
   }
 
-  module _ {L₁ : List ℤ} (p₁ : Put n (rems (2 ^ e) (block n L 0 ·⟨ n ⟩ block n L r)) d L L₁) where
+  module _ {L₁ : List ℤ} (p₁ : BlockPut n (rems (2 ^ e) (block n L 0 ·⟨ n ⟩ block n L r)) d L L₁) where
     r₁ : block n L₁ r ≈⟨ n ⟩ block n L r
     r₁ = p₁ .rest r (q .r-d)
 
@@ -74,7 +74,7 @@ module _ {n e : ℕ} {A L : List ℤ} {r d : ℕ} (q : ToDigit n e A L r d) wher
       low-≈ (≈-sym r₁) (q .low),
     )
 
-    pub digit-done : {L₂ : List ℤ} → Put n (shrunk n e A L₁ d r) r L₁ L₂ → Digited n (2 ^ e) (entries n A) L L₂ r d
+    pub digit-done : {L₂ : List ℤ} → BlockPut n (shrunk n e A L₁ d r) r L₁ L₂ → Digited n (2 ^ e) (entries n A) L L₂ r d
     digit-done p₂ = record {
       long = p₂ .long ∙ p₁ .long;
       step = digit-of e A L₁ (block n L 0) (block n L r) (q .stage .right) (q .r-d) (p₁ .there) r₁ p₂;
@@ -93,7 +93,7 @@ module _ {n e : ℕ} {A L : List ℤ} {r m s : ℕ} (q : ToStep n e A L r m s) w
   pub step-1 : Product n L r r s
   step-1 = product-asks order (q .here) (q .here) (q .next) (q .r-s) (q .r-s) R-low (q .low)
 
-  module _ {L₁ : List ℤ} (p₁ : Put n (block n L r ·⟨ n ⟩ block n L r) s L L₁) where
+  module _ {L₁ : List ℤ} (p₁ : BlockPut n (block n L r ·⟨ n ⟩ block n L r) s L L₁) where
     base₁ : block n L₁ 0 ≈⟨ n ⟩ block n L 0
     base₁ = p₁ .rest 0 (q .base-s)
 
@@ -121,7 +121,7 @@ module _ {n e : ℕ} {A L : List ℤ} {r m s : ℕ} (q : ToStep n e A L r m s) w
 
 -- ---- B_0 and R_0, from an inverse modulo 2^e: a digit of I
 
-module _ {n e : ℕ} {A L : List ℤ} (q : ToBase n e A L) {L₁ : List ℤ} (p₁ : Put n δ 1 L L₁) where
+module _ {n e : ℕ} {A L : List ℤ} (q : ToBase n e A L) {L₁ : List ℤ} (p₁ : BlockPut n δ 1 L L₁) where
   c₁ : block n L₁ 0 ≈⟨ n ⟩ block n L 0
   c₁ = p₁ .rest 0 (λ z. omega arith)
 
@@ -134,7 +134,7 @@ module _ {n e : ℕ} {A L : List ℤ} (q : ToBase n e A L) {L₁ : List ℤ} (p�
     room = low-≈ (≈-sym c₁) (q .low);
   }
 
-  module _ {L₂ : List ℤ} (p₂ : Put n (rems (2 ^ e) (block n L₁ 0)) 0 L₁ L₂) where
+  module _ {L₂ : List ℤ} (p₂ : BlockPut n (rems (2 ^ e) (block n L₁ 0)) 0 L₁ L₂) where
     one₂ : block n L₂ 1 ≈⟨ n ⟩ δ
     one₂ = ≈-trans (p₂ .rest 1 (λ z. omega arith)) (p₁ .there)
 
@@ -144,7 +144,7 @@ module _ {n e : ℕ} {A L : List ℤ} (q : ToBase n e A L) {L₁ : List ℤ} (p�
       low-≈ (≈-sym one₂) (record { low = λ i j a b. omega (arith, δ-size i j) }),
     )
 
-    pub base-done : {L₃ : List ℤ} → Put n (shrunk n e A L₂ 0 1) 1 L₂ L₃ → Started n (2 ^ e) (entries n A) L L₃
+    pub base-done : {L₃ : List ℤ} → BlockPut n (shrunk n e A L₂ 0 1) 1 L₂ L₃ → Started n (2 ^ e) (entries n A) L L₃
     base-done p₃ = record {
       long = p₃ .long ∙ p₂ .long ∙ p₁ .long;
       start = digit-start (digit-of e A L₂ (block n L 0) δ (q .right) (λ z. omega arith) (≈-trans (p₂ .there) (λ i j a b. ap (rem (2 ^ e)) (c₁ i j a b ∙ sym (·-idʳ n (block n L 0) i j a b)))) one₂ p₃);

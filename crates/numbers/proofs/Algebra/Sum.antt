@@ -8,7 +8,7 @@ use native.Mathlib.Omega.{arith}
 use native.Mathlib.Decide.{ℕ-discrete}
 use mathlib.Core.Bool.{cond}
 use borrow.Author.Tests.{eq-eqb, ne-eqb}
-use lib.IntN.{ℤ, pos, negℤ, natAbs, _+ℤ_, _*ℤ_, +ℤ-idl, +ℤ-idr, *ℤ-comm, *ℤ-zero, zero-*ℤ, negℤ-+ℤ}
+use lib.IntN.{ℤ, pos, natAbs, _+ℤ_, _*ℤ_, +ℤ-idl, +ℤ-idr, *ℤ-comm, *ℤ-zero, zero-*ℤ}
 unfoldable pub use Rattle.numbers.specs.Numbers.{sum, δ}
 use Rattle.numbers.proofs.Algebra.IntRing.{+ℤ-swap, *ℤ-distribˡ, *ℤ-idˡ}
 use Rattle.numbers.proofs.Algebra.IntOrder.{natAbs-+ℤ}
@@ -33,11 +33,6 @@ pub sum-+ : (n : ℕ) (f g : ℕ → ℤ) → sum n (λ i. f i +ℤ g i) ≡ sum
 unfolding sum
 sum-+ zero f g = refl
 sum-+ (suc n) f g = ap (λ x. x +ℤ (f n +ℤ g n)) (sum-+ n f g) ∙ +ℤ-swap (sum n f) (sum n g) (f n) (g n)
-
-pub sum-neg : (n : ℕ) (f : ℕ → ℤ) → sum n (λ i. negℤ (f i)) ≡ negℤ (sum n f)
-unfolding sum
-sum-neg zero f = refl
-sum-neg (suc n) f = ap (λ x. x +ℤ negℤ (f n)) (sum-neg n f) ∙ sym (negℤ-+ℤ (sum n f) (f n))
 
 pub sum-scaleˡ : (n : ℕ) (c : ℤ) (f : ℕ → ℤ) → sum n (λ i. c *ℤ f i) ≡ c *ℤ sum n f
 unfolding sum

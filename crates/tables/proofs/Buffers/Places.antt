@@ -12,7 +12,7 @@ use lib.Arith.{digits-lt, digits-div, digits-mod}
 use lib.IntN.{ℤ, pos}
 use lib.ListN.{length, getD}
 use Rattle.tables.specs.Tables.{Matrix, _≈⟨_⟩_, block}
-use Rattle.tables.specs.Buffer.{Put, RowPut, Wrote}
+use Rattle.tables.specs.Buffer.{BlockPut, RowPut, Wrote}
 use Rattle.tables.proofs.Buffers.Wrote.{wrote-none, wrote-join}
 
 pub square-small : {n : ℕ} → n ≤ 32 → n * n ≤ 1024
@@ -63,7 +63,7 @@ module _ {f : ℕ → ℤ} {P t : ℕ} {old new : List ℤ} (n o : ℕ) (from : 
   pub wrote-rest : (b : ℕ) → b ≢ o → block n new b ≈⟨ n ⟩ block n old b
   wrote-rest b ne i j h k = kept-at b ne (i * n + j) (digits-lt h k)
 
-pub put-of : {F : Matrix} {old new : List ℤ} (n o : ℕ) → Wrote (pos 0) (flat n F) (o * (n * n)) (n * n) old new → Put n F o old new
+pub put-of : {F : Matrix} {old new : List ℤ} (n o : ℕ) → Wrote (pos 0) (flat n F) (o * (n * n)) (n * n) old new → BlockPut n F o old new
 put-of {F} n o w = record {
   long = w .long;
   there = λ i j h k. w .inside (i * n + j) (digits-lt h k) ∙ ap₂ F (digits-div i k) (digits-mod i k);
@@ -85,7 +85,7 @@ rows-more {n} {o} {i} {F} h r w e = record {
   wrote = rw (next-row i n) (wrote-join (r .wrote) (w .wrote) (λ j l. e j l ∙ sym (flat-at n F (i * n + j) i j refl l)));
 }
 
-pub rows-put : {n o i : ℕ} {F : Matrix} {L K : List ℤ} → n ≤ i → Rows n F o i L K → Put n F o L K
+pub rows-put : {n o i : ℕ} {F : Matrix} {L K : List ℤ} → n ≤ i → Rows n F o i L K → BlockPut n F o L K
 rows-put {n} {o} {i} {F} {L} {K} h r = let e : i ≡ n = omega (arith, r .upto) in put-of n o (rw e at (r .wrote))
 
 -- every block but o is as it was

@@ -12,7 +12,7 @@ use Rattle.numbers.proofs.Remainders.Division.{residue-below, residue-cong}
 use Rattle.numbers.proofs.Remainders.Remainder.{rem-same}
 use Rattle.numbers.proofs.Remainders.Powers.{power-divides}
 use Rattle.tables.specs.Tables.{_·⟨_⟩_, CongM, block}
-use Rattle.tables.specs.Buffer.{Low, Has, Remain, Balance, Put, Wrote}
+use Rattle.tables.specs.Buffer.{Low, Has, Remain, Balance, BlockPut, Wrote}
 use Rattle.tables.specs.Residues.{residues, product32, Takes, Products}
 use Rattle.tables.proofs.Algebra.Matrix.{congM-refl, congM-·}
 use Rattle.tables.proofs.Buffers.Places.{square-small}
@@ -48,7 +48,7 @@ module _ {n e : ℕ} {L : List ℤ} {p q o : ℕ} (r : Remain n e L p q o) where
       low = r .low-left;
     }
 
-    module _ {K : List ℤ} (w : Put n (product32 n (block n L p) y) o L K) where
+    module _ {K : List ℤ} (w : BlockPut n (product32 n (block n L p) y) o L K) where
       pub remain-3 : Balance n e K o
       remain-3 = record {
         order = r .order;
@@ -58,7 +58,7 @@ module _ {n e : ℕ} {L : List ℤ} {p q o : ℕ} (r : Remain n e L p q o) where
         room = record { low = λ i j h k. rw (w .there i j h k) (omega (arith, residue-below (2 ^ 32) (omega arith) ((block n L p ·⟨ n ⟩ residues n y) i j))) };
       }
 
-      pub remain-done : {M : List ℤ} → Put n (λ i j. rem (2 ^ e) (block n K o i j)) o K M → Put n (λ i j. rem (2 ^ e) ((block n L p ·⟨ n ⟩ block n L q) i j)) o L M
+      pub remain-done : {M : List ℤ} → BlockPut n (λ i j. rem (2 ^ e) (block n K o i j)) o K M → BlockPut n (λ i j. rem (2 ^ e) ((block n L p ·⟨ n ⟩ block n L q) i j)) o L M
       remain-done t = record {
         long = t .long ∙ w .long;
         there = λ i j h k. t .there i j h k ∙ rem-same (2 ^ e) (pow-pos e) (cong-down (same i j h k) (power-divides (r .upto)));

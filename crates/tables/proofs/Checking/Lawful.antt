@@ -5,9 +5,8 @@ use Prim.Native.Nat.{ℕ, _*_, _^_}
 use lib.Dec.{T, leb, leb→le, eqb, eqb→eq}
 use lib.IntN.{ℤ, natAbs}
 use lib.ListN.{length}
-use Rattle.numbers.specs.Limits.{Legal}
+use Rattle.numbers.specs.Limits.{Legal, Lawful}
 use Rattle.numbers.proofs.Testing.Tests.{both}
-use Rattle.tables.specs.Checks.{Lawful}
 
 abbrev pub legal : List ℤ → Bool
 legal [] = true

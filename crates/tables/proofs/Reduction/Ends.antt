@@ -10,12 +10,12 @@ use lib.Arith.{digits-lt, digits-div, digits-mod}
 use lib.IntN.{ℤ, pos}
 use lib.ListN.{length, getD, set, length-set, replicate, length-replicate}
 use lib.Seq.{getD-set-same, getD-set-other}
+use Rattle.numbers.specs.Limits.{Lawful}
 use Rattle.numbers.specs.Remainder.{residue}
 use Rattle.numbers.proofs.Algebra.Sum.{δ, δ-same, δ-other, δ-comm}
 use Rattle.numbers.proofs.Remainders.Congruence.{cong-of-eq, cong-trans}
 use Rattle.tables.specs.Tables.{Matrix, _·⟨_⟩_, _ᵀ, CongM, entries}
-use Rattle.tables.specs.Buffer.{Put, Wrote}
-use Rattle.tables.specs.Checks.{Lawful}
+use Rattle.tables.specs.Buffer.{BlockPut, Wrote}
 use Rattle.tables.specs.Inverting.{Inverted, Spans, Zeros}
 use Rattle.tables.specs.Residues.{residues, Takes}
 use Rattle.tables.proofs.Algebra.Matrix.{congM-eq, congM-refl, congM-trans, congM-·, ≈-sym}
@@ -103,5 +103,5 @@ inverted {n} {o} A c {old} {new} e w l = record {
   rest = p .rest;
 }
   where
-    p : Put n (residues n c) o old new
+    p : BlockPut n (residues n c) o old new
     p = put-of n o (wrote-is w (λ t h. sym (ap (λ (m : ℕ). pos (getD c m 0)) (div-add-mod' t n))))

@@ -63,17 +63,17 @@ module _ {n k r : ℕ} {p p′ : List ℕ} (q : Cleared n k r p p′) where
 
 -- ---- `settle`, before it clears: word r has bit r
 
-pub record Ready (n r : ℕ) (p p′ : List ℕ) : Type 0 where
+pub record Led (n r : ℕ) (p p′ : List ℕ) : Type 0 where
   pub sized : Sized n p′
   pub one : Cong (pos 2) (bits p′ r r) (pos 1)
   pub goes : (A : Matrix) → Reaches n 2 r A (bits p) → Reaches n 2 r A (bits p′)
 
 module _ {n r s : ℕ} {p : List ℕ} (z : Sized n p) (v : Pivot n r (bits p) s) (h : r < n) where
-  pub ready-here : s ≡ r → Ready n r p p
-  ready-here e = record { sized = z; one = rw e at (v .one (omega arith)); goes = λ A g. g }
+  pub led-here : s ≡ r → Led n r p p
+  led-here e = record { sized = z; one = rw e at (v .one (omega arith)); goes = λ A g. g }
 
-  pub ready-join : s ≢ n → s ≢ r → Ready n r p (xored p r s)
-  ready-join f e =
+  pub led-join : s ≢ n → s ≢ r → Led n r p (xored p r s)
+  led-join f e =
       let l : s < n = omega (arith, v .upto) in
       let x = xor-step p r s (omega (arith, z .long)) in
       record {

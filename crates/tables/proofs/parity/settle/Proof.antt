@@ -6,7 +6,7 @@ use Prim.Native.Nat.{ℕ}
 use native.Mathlib.Omega.{arith}
 use borrow.Author.Needs.{needs}
 use Rattle.numbers.proofs.Answers.Says.{say-yes, say-no}
-use Rattle.tables.proofs.Reduction.Words.{Ready, ready-here, ready-join}
+use Rattle.tables.proofs.Reduction.Words.{Led, led-here, led-join}
 use Rattle.tables.proofs.parity.settle.Statement.{statement}
 use Rattle.tables.proofs.parity.settle.Tie as tie
 
@@ -20,15 +20,15 @@ join-requires : tie.Need-join-requires
 join-requires c κs = search needs
 
 abbrev Goal : tie.Joined2 → List ℕ → Type 0
-Goal c x = let g = c .before .before .before .before .args in Ready (g .n) (g .r) (g .p .now) x
+Goal c x = let g = c .before .before .before .before .args in Led (g .n) (g .r) (g .p .now) x
 
 ready : (c : tie.Joined2) → Goal c (c .if2 .p)
 ready c =
     let z = c .before .before .before .before .pre in
     let v = c .before .before .pivot .ensures in
     ⊎-elim
-    (λ w. subst (Goal c) (sym (w .3 ∙ w .2 .ensures)) (ready-join (z .1) v (z .0) (c .before .if1 .left) (w .0 .taken)))
-    (λ w. subst (Goal c) (sym (w .1)) (ready-here (z .1) v (z .0) (w .0 .left)))
+    (λ w. subst (Goal c) (sym (w .3 ∙ w .2 .ensures)) (led-join (z .1) v (z .0) (c .before .if1 .left) (w .0 .taken)))
+    (λ w. subst (Goal c) (sym (w .1)) (led-here (z .1) v (z .0) (w .0 .left)))
     (c .if2 .came)
 
 clear-requires : tie.Need-clear-requires
