@@ -1,3 +1,4 @@
 pub mod Matrix
+pub mod Terms
 pub mod MatrixSolver
 pub mod Rows

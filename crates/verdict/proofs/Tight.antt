@@ -1,22 +1,24 @@
--- How tight the statements are: the verdict is the rule's; and what the calls' promises leave on some starred tables, by uniqueness. A build that refuses everything, one with a
--- constant verdict, one that writes no block, one that fills later blocks with zeros, one that invents need or k, and one with remainders
--- from 0 to X - 1 break one of these.
-use mathlib.Core.Path.{_≡_, refl}
+-- How tight the statements are: the verdict is the rule's, and refuses by no other numbers than 1, 3 and 4; and what the calls' promises leave on some starred
+-- tables, by uniqueness. A build that refuses everything, one with a constant verdict, one that writes no block, one that fills later blocks with zeros, one that
+-- invents need or k, and one with remainders from 0 to X - 1 break one of these.
+use mathlib.Core.Path.{_≡_, refl, sym, subst}
+use mathlib.Core.Logic.{_⊎_, inl, inr}
 use mathlib.Core.List.{List, [], _∷_}
 use Prim.Native.Nat.{ℕ, zero, suc, _<_}
 use native.Mathlib.Nat.{not-suc-le-zero, le-of-suc-le-suc}
 use native.Mathlib.Omega.{arith}
 use lib.IntN.{ℤ, pos}
 use lib.ListN.{length, getD}
+use Rattle.numbers.specs.Refusals.{Gives}
 use Rattle.lifting.specs.Lifting.{LiftGives}
 use Rattle.lifting.proofs.Expansions.Unique.{lift-unique}
-use Rattle.verdict.specs.Verdict.{RuleYes, answer, outcomeOf, VerdictGives, InverseGives}
+use Rattle.verdict.specs.Verdict.{RuleYes, answer, outcomeOf, Told, after-0, after-7, verdictRefusals, VerdictGives, InverseGives}
 use Rattle.verdict.specs.Starred.{minus, Case, lifts-are, Claim, Every, starred, thin}
 use Rattle.verdict.specs.declared.Ruling.{Ruling}
-use Rattle.verdict.specs.declared.Ruling.the-variants.{Yes, No}
+use Rattle.verdict.specs.declared.Ruling.the-variants.{Yes, No, Refused}
 use Rattle.verdict.specs.declared.Outcome.{Outcome}
 use Rattle.verdict.proofs.Cases.{proved}
-use Rattle.verdict.proofs.Refusals.{passed, passed-no}
+use Rattle.verdict.proofs.Refusals.{zeros-untold, passed, passed-no}
 use Rattle.verdict.proofs.Rule.{rule-right}
 use Rattle.verdict.proofs.Unique.{ruling-unique, inverse-call-unique}
 
@@ -27,6 +29,17 @@ yes-by-rule {n} {e} {l} {A} v = rule-right (passed n A (v .number)) .1 (v .whole
 
 pub no-by-rule : {n e l : ℕ} {A : List ℤ} → VerdictGives n A (outcomeOf (No e l)) → ¬ RuleYes n A
 no-by-rule {n} {e} {l} {A} v y = let p = passed-no n A (v .number) in p .1 (rule-right (p .0) .0 y)
+
+-- so `Refused(7)` is no answer, and neither is `Refused(0)`
+pub refused-by : {n k : ℕ} {A : List ℤ} → VerdictGives n A (outcomeOf (Refused k)) → (k ≡ 1) ⊎ ((k ≡ 3) ⊎ (k ≡ 4))
+refused-by {n} {k} {A} v = go (v .number)
+  where
+    go : Gives (verdictRefusals n A) k → (k ≡ 1) ⊎ ((k ≡ 3) ⊎ (k ≡ 4))
+    go (inl (f, e)) = inl e
+    go (inr (o, inl (f, e))) = inr (inl e)
+    go (inr (o, inr (a, inl (f, e)))) = inr (inr e)
+    go (inr (o, inr (a, inr (p, inl (f, e))))) = absurd (zeros-untold (v .values) (subst Told (sym e) after-7))
+    go (inr (o, inr (a, inr (p, inr (w, e))))) = absurd (zeros-untold (v .values) (subst Told (sym e) after-0))
 
 -- ---- what is left on some starred tables
 
