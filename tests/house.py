@@ -13,7 +13,7 @@ BELIEVED = [
     "lifting/specs/Lifting.antt", "lifting/specs/Views.antt",
     "verdict/specs/Verdict.antt",
     "host/specs/Bytes.antt", "host/specs/Host.antt",
-    "sheets/specs/Sheet.antt", "sheets/specs/Place.antt", "sheets/specs/Answer.antt", "sheets/specs/Writing.antt",
+    "sheets/specs/Sheet.antt", "sheets/specs/Place.antt", "sheets/specs/Answer.antt",
     "reports/specs/Report.antt", "certify/specs/Program.antt",
 ]
 MOST_BELIEVED = 450
