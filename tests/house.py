@@ -48,7 +48,11 @@ def no_shortcut():
 def every_definition_file_opens_with_its_names():
     files = [p for p in CRATES.rglob("specs/*.antt") if p.name != "Lib.antt"]
     for path in files:
-        assert path.read_text(encoding="utf8").startswith("-- "), path
+        text = path.read_text(encoding="utf8")
+        opening = re.match(r"(?:--.*\n)*", text).group()
+        names = re.findall(r"^(?:abbrev |unfoldable )?pub (?:record |data )?(?!use )([^\s:({]+)", text, re.M)
+        absent = [n for n in names if not all(part in opening for part in n.split("_"))]
+        assert opening and not absent, f"{path}: {absent}"
     return f"{len(files)} files"
 
 

@@ -1,8 +1,9 @@
 -- What the host's calls give. T is the lent table, as bytes; O is the lent buffer as it was, and E as it is left.
---   hostVerdictRefusals n T, hostInverseRefusals n T O   the numbers in their order
---   HostVerdictGives n T k                               the verdict's number is k
---   IsInverseBytes n T E                                 E is the whole inverse of the table, as bytes
---   HostInverseGives n T O k E                           the inverse call's number is k, and it leaves E in the buffer
+--   hostVerdictRefusals n T     the verdict's numbers in their order
+--   HostVerdictGives n T k      the verdict's number is k
+--   hostInverseRefusals n T O   the inverse call's numbers in their order
+--   IsInverseBytes n T E        E is the whole inverse of the table, as bytes
+--   HostInverseGives n T O k E  the inverse call's number is k, and it leaves E in the buffer
 use mathlib.Core.Path.{_≡_}
 use mathlib.Core.Logic.{_≢_, _⊎_}
 use mathlib.Core.List.{List}

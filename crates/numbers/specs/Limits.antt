@@ -2,7 +2,7 @@
 --   IsOrder n   n is 1 to 32
 --   IsEntry v   v is -2^20 to 2^20
 --   Legal L     every number of the list is an entry
---   Lawful n A  a table of order n may be the list A: order, length and entries are right
+--   Lawful n A  the list A may be a table of order n: order, length and entries are right
 use mathlib.Core.Path.{_≡_}
 use mathlib.Core.List.{List, [], _∷_}
 use Prim.Native.Nat.{ℕ, _*_, _^_, _≤_}

@@ -3,8 +3,8 @@
 --   Gives rs k        k is the first of them that applies, or 0 where none does
 -- The order decides, not the size of a number. But where the numbers rise, the first that applies is the lowest (`gives-lowest`):
 --   Applies rs k      number k applies, wherever it stands
---   Lowest rs k       k is the lowest number that applies, or 0 where none does
 --   Rising m rs       the numbers rise, from above m on
+--   Lowest rs k       k is the lowest number that applies, or 0 where none does
 use mathlib.Core.Path.{_≡_}
 use mathlib.Core.Logic.{_⊎_}
 use Prim.Native.Nat.{ℕ, _<_}

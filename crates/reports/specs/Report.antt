@@ -1,4 +1,4 @@
--- What the program prints for a text, line by line.
+-- What the program prints for a text, line by line, and what the call `report` gives and leaves.
 --   figures ks             the numbers ks as figures of a line
 --   after0 k w             the text w where the number k is 0, and nothing after any other number
 --   answerLine n o         the line of number, n, need and k, where the inverse call answers o

@@ -1,15 +1,15 @@
--- Document 01's sheets tried by hand, and its report: computed from the definitions.
+-- Document 01's texts that are no sheets, tried by hand: computed from the definitions.
 use mathlib.Core.Path.{_≡_, refl, subst}
-use mathlib.Core.List.{List, [], _∷_, _++_}
+use mathlib.Core.List.{List, [], _∷_}
 use Prim.Native.Nat.{ℕ, suc, _*_, _<_}
 use Prim.Native.Char.{code}
 use Prim.Native.String.{String, [] as none, _∷_ as _then_}
 use native.Mathlib.Omega.{arith}
 use lib.Dec.{T, ltb, ltb→lt}
-use lib.IntN.{ℤ, pos, negsuc}
+use lib.IntN.{ℤ}
 use lib.ListN.{length, take}
 use Rattle.sheets.specs.declared.number.Seen.the-variants.{Nothing}
-use Rattle.sheets.specs.Sheet.{decimal, line, rows, IsSheet, IsBeginning}
+use Rattle.sheets.specs.Sheet.{IsSheet, IsBeginning}
 use Rattle.sheets.specs.Place.{lineAt, columnAt}
 use Rattle.sheets.specs.Answer.{byte, ended, ReadSays, refused}
 use Rattle.sheets.specs.Model.{State, Head, Body, Dead, run}
@@ -87,10 +87,3 @@ tried =
     and end-wrong (bytes "1\n1") tt
     and byte-wrong (bytes "1\n1\n\n") 4 (omega arith) tt refl
     and all
-
--- the report of document 01's 3 by 3 table
-pub report : line (pos 0 ∷ pos 3 ∷ pos 25 ∷ pos 1 ∷ [])
-    ++ rows 3 3 (pos 1 ∷ negsuc 262143 ∷ pos 137438953472 ∷ pos 0 ∷ pos 1 ∷ negsuc 524287 ∷ pos 0 ∷ pos 0 ∷ pos 1 ∷ [])
-    ≡ bytes "0 3 25 1\n1 -262144 137438953472\n0 1 -524288\n0 0 1\n"
-unfolding decimal
-report = refl

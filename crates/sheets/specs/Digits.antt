@@ -1,7 +1,7 @@
 -- The vocabulary of the contracts of `number`'s module: what one more byte makes of a number.
 --   grown limit m b    the magnitude m with the digit b after it, where b is a digit and the limit is kept
 --   ifSigned           zero and the minus sign stand only where the form has a sign
---   afterNothing, afterMinus, afterPlain, goPlain, afterLess   the state after one more byte, by what has been seen
+--   afterNothing, afterMinus, goPlain, afterPlain, afterLess   the state after one more byte, by what has been seen
 --   afterByte f s b    the state of a number of the form f after s has been seen, and then the byte b
 --   Allowed f s        what may have been seen of a number of the form f
 use mathlib.Core.Path.{_≡_}

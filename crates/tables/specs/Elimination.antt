@@ -6,7 +6,7 @@
 --   Reaches n m r A P             the same, for some C
 --   Keeps n m r C P C′ P′         whatever A is, r rows stay so
 --   Advances n m r C P C′ P′      whatever A is, from r rows the work went on to r + 1
---   None m k r P                  row r of P is 0 from column r up to column k
+--   None m k r P                  modulo m, row r of P is 0 from column r up to column k
 --   Pivot n r P s                 s is the first column from r on that is odd in row r, or n
 use mathlib.Core.Logic.{_≢_}
 use Prim.Native.Nat.{ℕ, _+_, _≤_, _<_}

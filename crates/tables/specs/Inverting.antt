@@ -1,11 +1,11 @@
--- The inverse modulo 2^32, by the elimination on tables of residues (`residues`, Residues.antt). The first name is the answer of `inverse`;
+-- The inverse modulo 2^32, by the elimination on tables of residues (`residues`, Residues.antt). The first name is the answer of `elimination::inverse`;
 -- the others are the vocabulary of inner contracts, which a reader of the calls can skip. The elimination's columns are the rows here: it works on the tables turned over.
---   Inverted n A o old new     block o holds an inverse of A modulo 2^32, in residues, and all else is as it was
+--   Inverted n A o old new     block o holds an inverse of A modulo 2^32, of magnitude at most 2^32, and all else is as it was
 --   Spans n c p                n is at most 32, and both lists hold a table
 --   Zeros t                    the list holds zeros only
 --   RowStep n d s a f t t′     modulo 2^32, row d becomes a times itself and f times row s
 --   Held n r t row             `row` is row r of the table, modulo 2^32
---   Ready x n r c p c′ p′      the work is kept, and the entry of p at row r and column r is 1 modulo x
+--   Ready x n r c p c′ p′      the work is kept, and the entry of p′ at row r and column r is 1 modulo x
 --   Sweep n r v w c p          what `sweep` asks: v and w are the rows r of c and p, and the entry of p there is 1
 use mathlib.Core.Path.{_≡_}
 use mathlib.Core.Logic.{_≢_}

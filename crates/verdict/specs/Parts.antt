@@ -2,9 +2,9 @@
 --   Fails n A old b new  where b is true A has no whole inverse; blocks 0 and 1 are as they were
 --   Kept n A M o         after a yes, block 0 of the buffer M is an inverse of A modulo 2^32
 --   NoneNarrow n A       no whole inverse of A is narrow
---   Summed n A M      block 0 of the buffer M is the whole inverse of A
---   Written n A E     E is the whole inverse of A, and narrow
---   Wide n A L E      E is the lent buffer L as it was, and no whole inverse is narrow
+--   Summed n A M         block 0 of the buffer M is the whole inverse of A
+--   Written n A E        E is the whole inverse of A, and narrow
+--   Wide n A L E         E is the lent buffer L as it was, and no whole inverse is narrow
 use mathlib.Core.Path.{_≡_}
 use mathlib.Core.Bool.{Bool, true}
 use mathlib.Core.List.{List}

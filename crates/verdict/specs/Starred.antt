@@ -1,12 +1,13 @@
 -- The starred cases of document 01, "Tried by hand": one table (`starred`), under one claim (`Claim`); proofs/Cases.antt proves every line.
---   minus n     -n
---   Case        what a line of the table says, with what shows it in brackets
---   Claim c     the claim of a line, about the rules and the calls' statements
---   Answers n A o E   what the inverse call gives whatever the lent buffer L held: o, and E L in the buffer
+--   minus n              -n
+--   Case                 what a line of the table says, with what shows it in brackets
+--   Answers n A o E      what the inverse call gives whatever the lent buffer L held: o, and E L in the buffer
 --   RuledYes n e k A E   what holds after a yes: the rule, the expansion E of k lifts at e, and the verdict
---   Every P cs  P holds of every line
---   thin, thick       the 3 by 3 table of document 01, and the same with 262145 (corner: what follows B_0 in their expansions)
---   starred           the table of cases
+--   Claim c              the claim of a line, about the rules and the calls' statements
+--   Every P cs           P holds of every line
+--   thin, thick          the 3 by 3 table of document 01, and the same with 262145
+--   thin-expansion, thick-expansion   their expansions (corner: what follows B_0)
+--   starred              the table of cases
 use mathlib.Core.Path.{_≡_}
 use mathlib.Core.List.{List, [], _∷_}
 use Prim.Native.Nat.{ℕ, _+_, _*_, _^_, _≤_}
@@ -31,7 +32,7 @@ pub data Case : Type 0 where
   lift-gives-6 : (n : ℕ) (A v : List ℤ) (c : ℕ) → Case
   -- the rule says yes, and so does the verdict, with e and k; the expansion of k lifts is E; and the inverse call writes B
   inverse-is : (n e k : ℕ) (A E B : List ℤ) → Case
-  -- the same, and the inverse call gives 8. (B is the inverse)
+  -- the same, but the inverse call gives 8. (B is the inverse)
   too-wide : (n e k : ℕ) (A E B : List ℤ) → Case
   -- the rule says no, and so do the verdict and the inverse call, with e and k. (v·A is 0 modulo m, and v is not, at place c)
   verdict-no-with : (n e k : ℕ) (A : List ℤ) (m : ℕ) (v : List ℤ) (c : ℕ) → Case

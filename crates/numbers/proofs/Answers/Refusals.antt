@@ -1,5 +1,5 @@
 -- The number that a call gives back is one; where the numbers rise, it is the lowest that applies, and tells what holds.
---   Learnt rs k   no number before k applies, and what k stands for holds: computed from the list
+--   Learnt rs k   no number before k applies, and what k stands for holds; for 0, no number applies. It is computed from the list
 use mathlib.Core.Path.{_≡_, sym, subst, _∙_}
 use mathlib.Core.Bool.{Bool, true, false}
 use mathlib.Core.Logic.{_≢_, inl, inr}

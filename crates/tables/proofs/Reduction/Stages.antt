@@ -1,4 +1,4 @@
--- The elimination from its start to its two ends: P is I, and then C is an inverse of A; or row r has no entry from column r on,
+-- The elimination from its start to its two ends: P is I, and then C is an inverse of A; or row r is 0 modulo m from column r on,
 -- and then the row u = δ_r - P_r kills P and so A, while its entry r is 1.
 use mathlib.Core.Path.{_≡_, sym, subst}
 use mathlib.Core.Logic.{_≢_}
