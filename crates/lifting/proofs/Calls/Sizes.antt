@@ -12,8 +12,8 @@ use Rattle.numbers.proofs.Remainders.Remainder.{rem-is, balanced-size}
 use Rattle.tables.specs.Tables.{Matrix, Below, _·⟨_⟩_, block, entries}
 use Rattle.tables.specs.Buffer.{Low, Has, Product}
 use Rattle.tables.proofs.Checking.Heights.{height-at, legal-height}
+use Rattle.lifting.specs.Steps.{rems}
 use Rattle.tables.proofs.Algebra.Matrix.{·-bound}
-use Rattle.lifting.proofs.Expansions.Rules.{rems}
 
 pub low-more : {n c d : ℕ} {A : Matrix} → c ≤ d → Low n c A → Low n d A
 low-more h l = record { low = λ i j a b. le-trans (l .low i j a b) h }

@@ -19,10 +19,10 @@ use Rattle.tables.specs.Inverting.{Inverted}
 use Rattle.tables.proofs.Buffers.Kernels.{low-≈}
 use Rattle.tables.proofs.Algebra.Matrix.{≈-refl, ≈-sym, ≈-trans, ·-cong, ·-idʳ, ⊟-cong, congM-eq, congM-trans}
 use Rattle.lifting.specs.Lifting.{IsDigit}
-use Rattle.lifting.specs.Steps.{Setting, ToStep, Stepped, ToDigit, Digited, ToBase, ToStart, Started}
+use Rattle.lifting.specs.Steps.{Setting, ToStep, Stepped, ToDigit, Digited, ToBase, ToStart, Started, rems}
 use Rattle.lifting.proofs.Calls.Sizes.{low-more, low-rems, low-entries, product-room, product-asks}
 use Rattle.lifting.proofs.Expansions.Bound.{δ-size}
-use Rattle.lifting.proofs.Expansions.Rules.{rems, digit-resp, digit-exists, digit-start}
+use Rattle.lifting.proofs.Expansions.Rules.{digit-resp, digit-exists, digit-start}
 
 -- ---- the division by X
 

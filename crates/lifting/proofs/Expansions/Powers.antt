@@ -12,7 +12,8 @@ use Rattle.numbers.proofs.Algebra.Sum.{δ}
 use Rattle.tables.specs.Tables.{Matrix, _⊞_, _⊟_, _⊙_, _·⟨_⟩_, block, HasInverseMod}
 use Rattle.tables.proofs.Algebra.MatrixSolver.{matrix, given_is_by_and_then_, 𝟙, _⊞ᵉ_, _⊟ᵉ_, _·ᵉ_, _⊙ᵉ_, _≑_}
 use Rattle.lifting.specs.Lifting.{IsExpansion}
-use Rattle.lifting.proofs.Expansions.Rules.{start-right, divide, divided}
+use Rattle.lifting.specs.Steps.{divide}
+use Rattle.lifting.proofs.Expansions.Rules.{start-right, divided}
 
 -- modulo p·q, hence modulo p
 pub fewer-mod : {n : ℕ} {A : Matrix} (p q : ℕ) → HasInverseMod n (p * q) A → HasInverseMod n p A

@@ -5,7 +5,6 @@ use mathlib.Core.Logic.{_≢_}
 use Prim.Native.Nat.{ℕ, _<_}
 use native.Mathlib.Omega.{arith}
 use lib.IntN.{ℤ, pos, natAbs, negℤ, _*ℤ_}
-use lib.Signed.{shrZ}
 use Rattle.numbers.specs.Numbers.{IsRem}
 use Rattle.numbers.specs.Remainder.{rem}
 use Rattle.numbers.proofs.Remainders.Congruence.{cong-of-eq, cong-sym}
@@ -19,6 +18,7 @@ use Rattle.tables.proofs.Algebra.Matrix.{≈-refl, ·-cong, ·-idʳ, ⊟-cong}
 use Rattle.tables.proofs.Algebra.MatrixSolver.{modular, given_is_by_and_then_, 𝟙, _·ᵉ_, _≑_}
 use Rattle.tables.proofs.Inverses.TwoSided.{inverse-unique-mod}
 use Rattle.lifting.specs.Lifting.{IsStart, IsDigit, IsStep}
+use Rattle.lifting.specs.Steps.{rems, divide}
 
 -- ---- a start is a digit of I, and B_0 an inverse modulo X
 
@@ -83,16 +83,8 @@ module _ (n X : ℕ) (h : 0 < X) (A : Matrix) where
 
 -- ---- there are some
 
--- a table divided by X
-abbrev pub divide : ℕ → Matrix → Matrix
-divide X P i j = shrZ (P i j) X
-
 pub divided : (n X : ℕ) (P Q : Matrix) → CongM n (pos X) Q P → P ⊟ Q ≈⟨ n ⟩ pos X ⊙ divide X (P ⊟ Q)
 divided n X P Q c i j h k = shr-exact X (cong-sym (c i j h k))
-
--- the balanced remainders of a table
-abbrev pub rems : ℕ → Matrix → Matrix
-rems X F i j = rem X (F i j)
 
 -- A·D = R modulo X where D = B·R, so that the division is exact
 pub digit-exists : {n X : ℕ} {A B : Matrix} → CongM n (pos X) (A ·⟨ n ⟩ B) δ → (R D : Matrix) → Below n (λ i j. IsRem X ((B ·⟨ n ⟩ R) i j) (D i j))

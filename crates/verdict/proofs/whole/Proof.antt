@@ -5,6 +5,8 @@ use Rattle.tables.proofs.Algebra.Matrix.{≈-sym}
 use Rattle.tables.proofs.Inverses.Laws.{whole-mod}
 use Rattle.numbers.proofs.Answers.Says.{say-yes, say-no}
 use lib.ListN.{length}
+use Rattle.numbers.specs.Limits.{IsOrder}
+use Rattle.tables.specs.Buffer.{Has}
 use borrow.Author.Tests.{not-true, not-false}
 use native.Mathlib.Numerals.{add-one}
 use native.Mathlib.Omega.{arith}
@@ -48,34 +50,38 @@ loop-holds c =
     let f = c .before .before .fails .ensures in
     (omega arith, (f .long ∙ b .long ∙ c .before .before .before .before .before .before .before .before .before .pre .1 .1, ((refl, (omega arith, omega arith)), holds-first (start-resp (b .start) (≈-sym (f .rest 0 (omega arith))) (≈-sym (f .rest 1 (omega arith)))))))
 
+-- a turn of the loop: the entry, and that the residue stands in the buffer
+abbrev from : tie.At-loop Inv-loop μ-loop → tie.Start Inv-loop μ-loop
+from l = l .before .before .before .before .before .before .before .before .before .before
+
+here : (l : tie.At-loop Inv-loop μ-loop) → let n = from l .args .n in IsOrder n × Has n (l .loop .buf) (l .loop .r)
+here l =
+    let o = from l .pre .0 .order in
+    (o, in-buffer (l .loop .r) (o .upto) (omega arith) (l .loop .inv .1 .0))
+
+long : (l : tie.At-loop Inv-loop μ-loop) → length (l .loop .buf) ≡ length (from l .args .buf .now)
+long l = l .loop .inv .1 .0 ∙ sym (from l .pre .1 .1)
+
 vanishes-requires : tie.Need-vanishes-requires Inv-loop μ-loop
-vanishes-requires c κs =
-    let l = c .before .before in
-    let s = c .before .before .before .before .before .before .before .before .before .before .before .before in
-    (s .pre .0 .order, in-buffer (l .loop .r) (s .pre .0 .order .upto) (omega arith) (l .loop .inv .1 .0))
+vanishes-requires c κs = here (c .before .before)
 
 same-length-2 : tie.Need-same-length-2 Inv-loop μ-loop
-same-length-2 c =
-    let l = c .before .before .before .before in
-    let s = c .before .before .before .before .before .before .before .before .before .before .before .before .before .before in
-    l .loop .inv .1 .0 ∙ sym (s .pre .1 .1)
+same-length-2 c = long (c .before .before .before .before)
 
 returns-3 : tie.Need-returns-3 Inv-loop μ-loop
 returns-3 c =
     let l = c .before .before .before .before in
-    let s = c .before .before .before .before .before .before .before .before .before .before .before .before .before .before in
-    say-yes (judged-yes (s .pre .0) (l .loop .inv .1 .1 .1) (c .before .vanishes .ensures .yes (c .if3 .taken)))
+    say-yes (judged-yes (from l .pre .0) (l .loop .inv .1 .1 .1) (c .before .vanishes .ensures .yes (c .if3 .taken)))
 
 step-requires : tie.Need-step-requires Inv-loop μ-loop
 step-requires c κs =
     let l = c .before .before .before .before .before in
-    let s = c .before .before .before .before .before .before .before .before .before .before .before .before .before .before .before in
-    let law = s .pre .0 in
+    let law = from l .pre .0 in
     let v = l .loop .inv in
     let m = law .order .upto in
     record {
       stage = holds-stage law (enough-32 law) (omega arith) (v .1 .1 .1);
-      here = in-buffer (l .loop .r) m (omega arith) (v .1 .0);
+      here = here l .1;
       low = holds-low law (enough-32 law) (v .1 .1 .1);
       digit = in-buffer 3 m (omega arith) (v .1 .0);
       next = in-buffer (l .loop .s) m (omega arith) (v .1 .0);
@@ -94,28 +100,20 @@ loop-less c = omega arith
 
 loop-again : tie.Need-loop-again Inv-loop μ-loop
 loop-again c =
-    let l = c .before .before .before .before .before .before .before in
-    let s = c .before .before .before .before .before .before .before .before .before .before .before .before .before .before .before .before .before in
-    let v = l .loop .inv in
+    let v = c .before .before .before .before .before .before .before .loop .inv in
     let q = c .before .step .ensures in
     (omega arith, (q .long ∙ v .1 .0, ((omega arith, (omega arith, omega arith)), rw add-one (holds-step (λ e. omega arith) (λ e. omega arith) (v .1 .1 .1) q))))
 
 vanishes-requires-2 : tie.Need-vanishes-requires-2 Inv-loop μ-loop
-vanishes-requires-2 c κs =
-    let l = c .before .before in
-    let s = c .before .before .before .before .before .before .before .before .before .before .before .before in
-    (s .pre .0 .order, in-buffer (l .loop .r) (s .pre .0 .order .upto) (omega arith) (l .loop .inv .1 .0))
+vanishes-requires-2 c κs = here (c .before .before)
 
 same-length-3 : tie.Need-same-length-3 Inv-loop μ-loop
-same-length-3 c =
-    let l = c .before .before .before in
-    let s = c .before .before .before .before .before .before .before .before .before .before .before .before .before in
-    l .loop .inv .1 .0 ∙ sym (s .pre .1 .1)
+same-length-3 c = long (c .before .before .before)
 
 returns-4 : tie.Need-returns-4 Inv-loop μ-loop
 returns-4 c =
     let l = c .before .before .before in
-    let s = c .before .before .before .before .before .before .before .before .before .before .before .before .before in
+    let s = from l in
     let e : l .loop .t ≡ s .args .k = omega arith in
     judged-last (s .pre .0) (s .pre .1 .0) (rw e at (l .loop .inv .1 .1 .1)) (c .vanishes2 .ensures)
 

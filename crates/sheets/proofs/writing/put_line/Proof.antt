@@ -43,9 +43,11 @@ loop-less c = omega (arith, c .before .before .before .before .before .before .b
 
 loop-again : tie.Need-loop-again Inv-loop μ-loop
 loop-again c =
-    let l = c .before .before .before .before .before .before .before .before .before .before .before .loop in
-    let h = c .before .before .before .before .before .before .before .before .before .before .loop-test .taken in
-    (omega arith, line-turn (c .before .before .before .before .before .before .before .before .before .before .before .before .before .args .figures .now) (l .i) h (c .before .before .before .before .before .before .before .before .put-figure-arg2 .given) (l .inv .1) (c .before .before .before .before .before .before .before .put-figure .ensures) (c .before .before .before .after-figure .ensures) (c .before .before .put-byte .ensures))
+    let f = c .before .before .before .before .before .before .before in
+    let t = f .before .before .before in
+    let l = t .before .loop in
+    let s = t .before .before .before in
+    (omega (arith, t .loop-test .taken), line-turn (s .args .figures .now) (l .i) (t .loop-test .taken) (f .before .put-figure-arg2 .given) (l .inv .1) (f .put-figure .ensures) (c .before .before .before .after-figure .ensures) (c .before .before .put-byte .ensures))
 
 same-length : tie.Need-same-length Inv-loop μ-loop
 same-length c = partly-length (c .before .loop .inv .1)

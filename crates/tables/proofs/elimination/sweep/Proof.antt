@@ -1,14 +1,12 @@
-use mathlib.Core.Path.{subst₂}
+use mathlib.Core.Path.{sym, subst₂}
 use mathlib.Core.List.{List}
 use mathlib.Core.Logic.{⊎-elim}
-use Rattle.tables.proofs.Buffers.Places.{row-end}
 use borrow.Author.Needs.{needs}
 use Rattle.tables.proofs.Reduction.Rows.{Sweeping, row-gains, sweep-none, sweep-pivot, sweep-row, sweep-all}
-use Rattle.tables.proofs.Buffers.Places.{square-small}
+use Rattle.tables.proofs.Buffers.Places.{square-small, row-end}
 use lib.Arith.{digits-lt}
 use native.Mathlib.Omega.{arith}
-use Prim.Native.Nat.{ℕ, _+_, _-_, _≤_, _<_}
-use mathlib.Core.Path.{sym}
+use Prim.Native.Nat.{ℕ, _+_, _-_, _*_, _≤_, _<_}
 use Rattle.tables.proofs.elimination.sweep.Statement.{statement}
 use Rattle.tables.proofs.elimination.sweep.Tie as tie
 
@@ -21,32 +19,51 @@ abbrev μ-loop : tie.MeasureT-loop
 loop-holds : tie.Need-loop-holds Inv-loop μ-loop
 loop-holds c = (omega arith, sweep-none (c .before .before .before .before .pre))
 
+-- a turn of the loop: the entry, and that place r of row d and the row's end lie in a table
+abbrev from : tie.In-loop Inv-loop μ-loop → tie.Start Inv-loop μ-loop
+from t = t .before .before .before .before .before .before
+
+small : (t : tie.In-loop Inv-loop μ-loop) → from t .args .n * from t .args .n ≤ 1024
+small t = square-small (from t .pre .spans .order)
+
+place-in : (t : tie.In-loop Inv-loop μ-loop) → t .before .loop .d * from t .args .n + from t .args .r < from t .args .n * from t .args .n
+place-in t = digits-lt (t .loop-test .taken) (from t .pre .inside)
+
+row-in : (t : tie.In-loop Inv-loop μ-loop) → t .before .loop .d * from t .args .n + from t .args .n ≤ from t .args .n * from t .args .n
+row-in t = row-end (t .loop-test .taken)
+
 mul-negative : tie.Need-mul-negative Inv-loop μ-loop
-mul-negative c = let h : c .before .before .loop .d < c .before .before .before .before .before .before .before .args .n = omega arith in let s = c .before .before .before .before .before .before .before .pre in omega (arith, digits-lt h (s .inside), square-small (s .spans .order))
+mul-negative c = omega (arith, place-in (c .before), small (c .before))
 
 add-negative : tie.Need-add-negative Inv-loop μ-loop
-add-negative c = let h : c .before .before .loop .d < c .before .before .before .before .before .before .before .args .n = omega arith in let s = c .before .before .before .before .before .before .before .pre in omega (arith, digits-lt h (s .inside), square-small (s .spans .order))
+add-negative c = omega (arith, place-in (c .before), small (c .before))
 
 mul-negative-2 : tie.Need-mul-negative-2 Inv-loop μ-loop
-mul-negative-2 c = let h : c .before .before .loop .d < c .before .before .before .before .before .before .before .args .n = omega arith in let s = c .before .before .before .before .before .before .before .pre in omega (arith, digits-lt h (s .inside), square-small (s .spans .order))
+mul-negative-2 c = omega (arith, place-in (c .before), small (c .before))
 
 slice-read-negative : tie.Need-slice-read-negative Inv-loop μ-loop
-slice-read-negative c = let h : c .before .before .before .loop .d < c .before .before .before .before .before .before .before .before .args .n = omega arith in omega (arith, digits-lt h (c .before .before .before .before .before .before .before .before .pre .inside), c .before .before .before .loop .inv .1 .spans .long-p)
+slice-read-negative c = omega (arith, place-in (c .before .before), c .before .before .before .loop .inv .1 .spans .long-p)
 
 negative-requires : tie.Need-negative-requires Inv-loop μ-loop
 negative-requires c κs = search needs
 
 mul-fold-row : tie.Need-mul-fold-row Inv-loop μ-loop
-mul-fold-row c = let h : c .before .before .before .before .before .loop .d < c .before .before .before .before .before .before .before .before .before .before .args .n = omega arith in omega (arith, row-end h, square-small (c .before .before .before .before .before .before .before .before .before .before .pre .spans .order))
+mul-fold-row c = let t = c .before .before .before .before in omega (arith, row-in t, small t)
 
 fold-row-requires : tie.Need-fold-row-requires Inv-loop μ-loop
-fold-row-requires c κs = let h : c .before .before .before .before .before .loop .d < c .before .before .before .before .before .before .before .before .before .before .args .n = omega arith in let q = c .before .before .before .before .before .loop .inv .1 in omega (arith, row-end h, q .held-c .long, q .spans .long-c)
+fold-row-requires c κs =
+    let t = c .before .before .before .before in
+    let q = t .before .loop .inv .1 in
+    omega (arith, row-in t, q .held-c .long, q .spans .long-c)
 
 mul-fold-row-2 : tie.Need-mul-fold-row-2 Inv-loop μ-loop
-mul-fold-row-2 c = let h : c .before .before .before .before .before .before .before .before .before .loop .d < c .before .before .before .before .before .before .before .before .before .before .before .before .before .before .args .n = omega arith in omega (arith, row-end h, square-small (c .before .before .before .before .before .before .before .before .before .before .before .before .before .before .pre .spans .order))
+mul-fold-row-2 c = let t = c .before .before .before .before .before .before .before .before in omega (arith, row-in t, small t)
 
 fold-row-requires-2 : tie.Need-fold-row-requires-2 Inv-loop μ-loop
-fold-row-requires-2 c κs = let h : c .before .before .before .before .before .before .before .before .before .loop .d < c .before .before .before .before .before .before .before .before .before .before .before .before .before .before .args .n = omega arith in let q = c .before .before .before .before .before .before .before .before .before .loop .inv .1 in omega (arith, row-end h, q .held-p .long, q .spans .long-p)
+fold-row-requires-2 c κs =
+    let t = c .before .before .before .before .before .before .before .before in
+    let q = t .before .loop .inv .1 in
+    omega (arith, row-in t, q .held-p .long, q .spans .long-p)
 
 add-d : tie.Need-add-d Inv-loop μ-loop
 add-d c = omega arith
