@@ -5,6 +5,8 @@
 #include <stddef.h>
 #include <stdint.h>
 
+#define MULJENTA_VERSION "1.0.0"
+
 #ifdef __cplusplus
 extern "C" {
 #endif

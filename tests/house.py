@@ -105,8 +105,16 @@ def public_calls_require_nothing():
     return f"{sum(map(len, calls.values()))} calls"
 
 
+def the_header_has_the_version_of_the_changelog():
+    version = re.search(r"^## (\S+), \d{4}-\d\d-\d\d$", (ROOT / "CHANGELOG.md").read_text(encoding="utf8"), re.M).group(1)
+    header = (ROOT / "include" / "muljenta.h").read_text(encoding="utf8")
+    assert f'#define MULJENTA_VERSION "{version}"' in header, version
+    return version
+
+
 def checks(lib):
     return [
         layout, definitions_to_believe, no_shortcut, every_definition_file_opens_with_its_names,
         wrong_builds_are_refused_for_a_false_fact, every_wrong_build_is_named_in_the_calls, public_calls_require_nothing,
+        the_header_has_the_version_of_the_changelog,
     ]
