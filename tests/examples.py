@@ -39,6 +39,8 @@ def checks(lib):
         return f"float64 says {families.float_determinant(table):.3f}"
 
     def host_in_c():
+        if not machine.IS_X86:
+            machine.not_run("examples/host.py, examples/host.rs", "they need a Python and a Rust library for x86-64, which Debian's packages for this machine do not have")
         program = lib.folder / "host_c"
         told(machine.gcc("-Wall", "-Wextra", "-Werror", "-Iinclude", "examples/host.c", ARCHIVE, "-o", program))
         assert told(machine.run(program)) == HOSTS
@@ -56,8 +58,4 @@ def checks(lib):
         assert told([program]) == HOSTS
         return "examples/host.rs"
 
-    everywhere = [sheets, a_determinant_of_3_that_floats_call_1, host_in_c]
-    if machine.IS_X86:
-        return [*everywhere, host_in_python, host_in_rust]
-    machine.not_run("examples/host.py, examples/host.rs", "they need a Python and a Rust library for x86-64, which Debian's packages for this machine do not have")
-    return everywhere
+    return [sheets, a_determinant_of_3_that_floats_call_1, host_in_c, *([host_in_python, host_in_rust] if machine.IS_X86 else [])]
