@@ -7,11 +7,11 @@ use mathlib.Core.List.{List}
 use Prim.Native.Nat.{ℕ}
 use lib.ListN.{length, take}
 use Rattle.io.specs.Counts.{Counts}
-use Rattle.reports.specs.Report.{IsReport}
+use Rattle.reports.specs.Report.{IsReport, enough}
 
 pub record Asked (text : List ℕ) (n : ℕ) (out : List ℕ) : Type 0 where
   pub text-size : length text ≡ 9220
-  pub out-size : length out ≡ 14352
+  pub out-size : length out ≡ enough
   pub read : Counts n text
 
 pub record Answers (text : List ℕ) (n : ℕ) (out : List ℕ) (r : ℕ) : Type 0 where

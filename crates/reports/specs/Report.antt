@@ -5,8 +5,9 @@
 --   certificate n o E      this line, and after 0 the inverse E, n lines of n figures
 --   IsCertificate n es R   R is the certificate of what the inverse call gives for the entries es, lent n² numbers
 --   IsReport t R           R is the report of the text t: the line of 9, line, column and reason, or the certificate of a sheet
---   ReportGives t old r new    what report gives and leaves of the lent output old: where it has fewer than 14,352 bytes, 0 and the output as it was; else
---                          the report of t first in it, with its length, and the bytes after it as they were
+--   enough                 so many bytes have room for every report
+--   ReportGives t old r new    what report gives and leaves of the lent output old: where it is shorter than that, 0 and the output as it was; else the report of
+--                          t first in it, with its length, and the bytes after it as they were
 use mathlib.Core.Path.{_≡_}
 use mathlib.Core.List.{List, [], _∷_, _++_}
 use Prim.Native.Nat.{ℕ, zero, suc, _*_, _≤_, _<_}
@@ -43,6 +44,9 @@ pub data IsReport (t : List ℕ) : List ℕ → Type 0 where
   no-sheet : (fs : List ℕ) → NoSheet t fs → IsReport t (line (figures (9 ∷ fs)))
   of-sheet : (n : ℕ) (es : List ℤ) (R : List ℕ) → IsSheet t n es → IsCertificate n es R → IsReport t R
 
+abbrev pub enough : ℕ
+enough = 14352
+
 pub data ReportGives (t old : List ℕ) : ℕ → List ℕ → Type 0 where
-  no-room : length old < 14352 → ReportGives t old 0 old
-  room : (R : List ℕ) → 14352 ≤ length old → IsReport t R → ReportGives t old (length R) (R ++ drop (length R) old)
+  no-room : length old < enough → ReportGives t old 0 old
+  room : (R : List ℕ) → enough ≤ length old → IsReport t R → ReportGives t old (length R) (R ++ drop (length R) old)

@@ -2,7 +2,10 @@ use Rattle.lifting.proofs.Calls.Holding.{in-buffer}
 use Rattle.verdict.proofs.Column.{Linear, copy-asks, copied-start, copied-column, copied-fails, linear-first, linear-more, digit-asks, fails-not, fails-so}
 use native.Mathlib.Omega.{arith}
 use Prim.Native.Nat.{_-_, _≤_}
-use mathlib.Core.Path.{sym, _∙_}
+use mathlib.Core.Path.{_≡_, sym, _∙_}
+use lib.ListN.{length}
+use Rattle.numbers.specs.Limits.{IsOrder}
+use Rattle.tables.specs.Buffer.{Has}
 use Rattle.verdict.proofs.fails.Statement.{statement}
 use Rattle.verdict.proofs.fails.Tie as tie
 
@@ -21,14 +24,21 @@ loop-holds c =
     let s = c .before .before .before in
     (s .pre .0 .order .from, (omega arith, linear-first (s .pre .0) (p .long ∙ s .pre .1 .0) (copied-start p (s .args .a .now) (s .pre .1 .1)) (copied-column p (s .pre .0 .order .from))))
 
+-- a turn of the loop: that the column stands in the buffer, and the buffer's length
+here : (l : tie.At-loop Inv-loop μ-loop) → let n = l .before .before .before .before .args .n in IsOrder n × Has n (l .loop .buf) 2
+here l = let q = l .loop .inv .1 .1 in (q .law .order, in-buffer 2 (q .law .order .upto) (omega arith) (q .long))
+
+long : (l : tie.At-loop Inv-loop μ-loop) → length (l .loop .buf) ≡ length (l .before .before .before .before .args .buf .now)
+long l = l .loop .inv .1 .1 .long ∙ sym (l .before .before .before .before .pre .1 .0)
+
 vanishes-requires : tie.Need-vanishes-requires Inv-loop μ-loop
-vanishes-requires c κs = let q = c .before .before .loop .inv .1 .1 in (q .law .order, in-buffer 2 (q .law .order .upto) (omega arith) (q .long))
+vanishes-requires c κs = here (c .before .before)
 
 same-length : tie.Need-same-length Inv-loop μ-loop
-same-length c = c .before .before .before .before .loop .inv .1 .1 .long ∙ sym (c .before .before .before .before .before .before .before .before .pre .1 .0)
+same-length c = long (c .before .before .before .before)
 
 returns : tie.Need-returns Inv-loop μ-loop
-returns c = copied-fails (c .before .before .before .before .before .before .copy .ensures) (fails-not (c .before .before .before .before .loop .inv .1 .1))
+returns c = let l = c .before .before .before .before in copied-fails (l .before .before .copy .ensures) (fails-not (l .loop .inv .1 .1))
 
 column-digit-requires : tie.Need-column-digit-requires Inv-loop μ-loop
 column-digit-requires c κs = digit-asks (c .before .before .before .before .before .loop .inv .1 .1)
@@ -43,21 +53,22 @@ loop-again : tie.Need-loop-again Inv-loop μ-loop
 loop-again c = (omega arith, (omega arith, linear-more (c .before .before .before .before .before .before .before .loop .inv .1 .1) (c .before .column-digit .ensures)))
 
 vanishes-requires-2 : tie.Need-vanishes-requires-2 Inv-loop μ-loop
-vanishes-requires-2 c κs = let q = c .before .before .loop .inv .1 .1 in (q .law .order, in-buffer 2 (q .law .order .upto) (omega arith) (q .long))
+vanishes-requires-2 c κs = here (c .before .before)
 
 same-length-2 : tie.Need-same-length-2 Inv-loop μ-loop
-same-length-2 c = c .before .before .before .before .loop .inv .1 .1 .long ∙ sym (c .before .before .before .before .before .before .before .before .pre .1 .0)
+same-length-2 c = long (c .before .before .before .before)
 
 returns-2 : tie.Need-returns-2 Inv-loop μ-loop
-returns-2 c = copied-fails (c .before .before .before .before .before .before .copy .ensures) (fails-not (c .before .before .before .before .loop .inv .1 .1))
+returns-2 c = let l = c .before .before .before .before in copied-fails (l .before .before .copy .ensures) (fails-not (l .loop .inv .1 .1))
 
 same-length-3 : tie.Need-same-length-3 Inv-loop μ-loop
-same-length-3 c = c .before .before .before .before .loop .inv .1 .1 .long ∙ sym (c .before .before .before .before .before .before .before .before .pre .1 .0)
+same-length-3 c = long (c .before .before .before .before)
 
 returns-3 : tie.Need-returns-3 Inv-loop μ-loop
 returns-3 c =
-    let l = c .before .before .before .before .loop .inv in
-    copied-fails (c .before .before .before .before .before .before .copy .ensures) (fails-so (l .1 .1) (omega arith) (l .0) (c .before .vanishes2 .ensures .no (c .if2 .left)))
+    let l = c .before .before .before .before in
+    let q = l .loop .inv in
+    copied-fails (l .before .before .copy .ensures) (fails-so (q .1 .1) (omega arith) (q .0) (c .before .vanishes2 .ensures .no (c .if2 .left)))
 
 pub fails-spec : {M : Type 1} → statement M
 fails-spec =
