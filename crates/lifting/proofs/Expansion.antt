@@ -14,8 +14,10 @@ use Rattle.tables.specs.Tables.{Matrix, Below, _≈⟨_⟩_, _⊟_, _⊙_, _·�
 use Rattle.tables.proofs.Checking.Heights.{height-at}
 use Rattle.lifting.specs.Lifting.{IsExpansion, LiftGives}
 use Rattle.lifting.specs.Meaning.{modulus, lifted}
-use Rattle.lifting.proofs.Expansions.Powers.{power-mod, expansion-base}
+use Rattle.tables.proofs.Inverses.Powers.{power-mod}
+use Rattle.lifting.proofs.Expansions.Powers.{expansion-base}
 use Rattle.lifting.proofs.Expansions.Meaning.{upto-means}
+use Rattle.lifting.proofs.Expansions.Vanishing.{stays}
 use Rattle.lifting.proofs.Expansions.Bound.{upto-bounded}
 use Rattle.lifting.proofs.Expansions.Exists.{expansion-of}
 use Rattle.lifting.proofs.Expansions.Unique.{expansion-same}
@@ -32,6 +34,11 @@ expansion-unique {n} {X} {s} {A} {L} {K} h p q = expansion-same n X s h A L K p 
 -- A·B_i = I - R_i·X_i
 pub meaning : {n X s : ℕ} {A : Matrix} {L : List ℤ} → IsExpansion n X s A L → (i : ℕ) → i ≤ s → A ·⟨ n ⟩ lifted n X L i ≈⟨ n ⟩ δ ⊟ pos (modulus X i) ⊙ block n L (2 * i + 1)
 meaning p = upto-means (p .blocks)
+
+-- where R_i is 0, every later residue is 0 and every later B is B_i
+pub zero-stays : {n X s : ℕ} {A : Matrix} {L : List ℤ} → 0 < X → IsExpansion n X s A L → (i d : ℕ) → d + i ≤ s → Zero n (block n L (2 * i + 1))
+    → Zero n (block n L (2 * (d + i) + 1)) × (lifted n X L (d + i) ≈⟨ n ⟩ lifted n X L i)
+zero-stays h p = stays h (p .blocks)
 
 -- X_i = X^(2^(i+1) - 1)
 pub modulus-power : (X i : ℕ) → modulus X i ≡ X ^ (2 ^ (i + 1) - 1)

@@ -3,7 +3,9 @@ pub mod Exists
 pub mod Unique
 pub mod Meaning
 pub mod Bound
+pub mod Linear
 pub mod Residues
+pub mod Vanishing
 pub mod Powers
 pub mod Upto
 pub mod Check

@@ -89,7 +89,7 @@ pub fn digit(n: usize, e: u32, a: &[i64], buf: &mut [i64], r: usize, d: usize)
     tables::blocks::shrink(n, e, a, buf, d, r);
 }
 
-// The same for the first column of that residue alone; nothing is said of block d, nor of the other columns of block r.
+// The same for the first column of that residue alone; nothing is said of the other columns of blocks d and r.
 pub fn column_digit(n: usize, e: u32, a: &[i64], buf: &mut [i64], r: usize, d: usize)
     requires { ⌜ ToColumnDigit n e (now a) (now buf) r d ⌝ }
     ensures { λ _. ⌜ ColumnDigited n e (now (a .entry)) (now (buf .entry)) (now (buf .exit)) r d ⌝ }

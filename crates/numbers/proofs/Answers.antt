@@ -1,2 +1,4 @@
 pub mod Refusals
+pub mod Decisions
+pub mod Tables
 pub mod Says

@@ -1,5 +1,6 @@
 pub mod Numbers
 pub mod Remainder
-pub mod Limits
+pub mod Moduli
 pub mod Refusals
+pub mod Limits
 pub mod Says

@@ -8,7 +8,7 @@ ghost use Rattle.numbers.specs.Numbers.{δ};
 ghost use Rattle.numbers.specs.Limits.{IsOrder};
 ghost use Rattle.numbers.specs.Remainder.{rem};
 ghost use Rattle.numbers.specs.Says.{Tells};
-ghost use Rattle.tables.specs.Tables.{_·⟨_⟩_, _≈⟨_⟩_, block, tableAt};
+ghost use Rattle.tables.specs.Tables.{_·⟨_⟩_, Zero, block, tableAt};
 ghost use Rattle.tables.specs.Buffer.{Low, RowLow, Has, Dot, Product, Remain, Shrink, shrunk, BlockPut, RowPut, Balance, Extend, Copied};
 
 // Block o becomes the product of blocks p and q.
@@ -153,7 +153,7 @@ pub fn copy(m: usize, a: &[i64], buf: &mut [i64])
 // Whether block o is all zero.
 pub fn vanishes(n: usize, buf: &[i64], o: usize) -> bool
     requires { ⌜ (IsOrder n) × (Has n (now buf) o) ⌝ }
-    ensures { λ r. ⌜ Tells (block n (now (buf .entry)) o ≈⟨ n ⟩ (λ (i j : ℕ). pos 0)) r ⌝ }
+    ensures { λ r. ⌜ Tells (Zero n (block n (now (buf .entry)) o)) r ⌝ }
 {
     let m = n * n;
     let oa = o * m;
@@ -199,7 +199,7 @@ pub fn dot(n: usize, a: &[i64], p: usize, b: &[i64], q: usize, i: usize, j: usiz
 }
 
 // Entry (i, k) of the table at place p.
-fn cell(n: usize, a: &[i64], p: usize, i: usize, k: usize) -> i64
+pub fn cell(n: usize, a: &[i64], p: usize, i: usize, k: usize) -> i64
     requires { ⌜ (n ≤ 32) × ((i < n) × ((k < n) × (p + n * n ≤ length (now a)))) ⌝ }
     ensures { λ r. ⌜ r ≡ getD (now (a .entry)) (p + (i * n + k)) (pos 0) ⌝ }
 {

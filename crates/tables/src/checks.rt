@@ -59,7 +59,7 @@ pub fn first_outside(n: usize, table: &[i64]) -> Outside
 }
 
 // Whether a number is inside the range.
-fn is_entry(v: i64) -> bool
+pub fn is_entry(v: i64) -> bool
     ensures { λ r. ⌜ Tells (IsEntry v) r ⌝ }
 {
     numbers::mag(v) <= numbers::MOST_ENTRY

@@ -58,11 +58,15 @@ module _ {n e : ℕ} {A L : List ℤ} {r d : ℕ} (q : ToColumnDigit n e A L r d
         small : (z : ℤ) → natAbs (rem (2 ^ e) z) ≤ 2 ^ 31
         small z = omega (arith, balanced-size (rem (2 ^ e) z) (rem-is (2 ^ e) (pow-pos e) z .balanced), pow-mono {i = e} {j = 32} (setting .upto))
 
+    -- the digit of any table with that column
+    d₁ : (R : Matrix) → SameColumn n (block n L r) R → SameColumn n (block n L₁ d) (digitOf n (2 ^ e) (block n L 0) R)
+    d₁ R same k l = p₁ .there k l ∙ ap (rem (2 ^ e)) (column-· n (block n L 0) (block n L r) R same k l)
+
     pub column-done : {L₂ : List ℤ} → ColumnPut n (λ i. shrunk n e A L₁ d r i 0) r L₁ L₂ → ColumnDigited n e A L L₂ r d
     column-done p₂ = record {
       long = p₂ .long ∙ p₁ .long;
+      digit = λ R same i h. p₂ .rest d (λ z. q .r-d (sym z)) i 0 h (setting .lawful .order .from) ∙ d₁ R same i h;
       step = λ R same i h. p₂ .there i h
-          ∙ ap₂ (λ x y. shrZ (x -ℤ y) (2 ^ e)) (r₁ i h ∙ same i h)
-          (column-· n (entries n A) (block n L₁ d) (digitOf n (2 ^ e) (block n L 0) R) (λ k l. p₁ .there k l ∙ ap (rem (2 ^ e)) (column-· n (block n L 0) (block n L r) R same k l)) i h);
+          ∙ ap₂ (λ x y. shrZ (x -ℤ y) (2 ^ e)) (r₁ i h ∙ same i h) (column-· n (entries n A) (block n L₁ d) (digitOf n (2 ^ e) (block n L 0) R) (d₁ R same) i h);
       rest = λ b bd br. ≈-trans (p₂ .rest b br) (p₁ .rest b bd);
     }

@@ -19,10 +19,18 @@ use Rattle.tables.specs.Inverting.{Inverted}
 use Rattle.tables.proofs.Buffers.Kernels.{low-≈}
 use Rattle.tables.proofs.Algebra.Matrix.{≈-refl, ≈-sym, ≈-trans, ·-cong, ·-idʳ, ⊟-cong, congM-eq, congM-trans}
 use Rattle.lifting.specs.Lifting.{IsDigit}
-use Rattle.lifting.specs.Steps.{Setting, ToStep, Stepped, ToDigit, Digited, ToBase, ToStart, Started, rems}
+use Rattle.lifting.specs.Steps.{Setting, Stage, ToStep, Stepped, ToDigit, Digited, ToBase, ToStart, Started, rems}
 use Rattle.lifting.proofs.Calls.Sizes.{low-more, low-rems, low-entries, product-room, product-asks}
 use Rattle.lifting.proofs.Expansions.Bound.{δ-size}
 use Rattle.lifting.proofs.Expansions.Rules.{digit-resp, digit-exists, digit-start}
+
+-- an inverse that is kept in block 0
+pub stage-resp : {n e : ℕ} {A L K : List ℤ} → block n K 0 ≈⟨ n ⟩ block n L 0 → Stage n e A L → Stage n e A K
+stage-resp {n} {e} {A} same s = record {
+  setting = s .setting;
+  right = congM-trans n (pos (2 ^ e)) (congM-eq n (pos (2 ^ e)) (·-cong n (≈-refl n (entries n A)) same)) (s .right);
+  small = low-≈ (≈-sym same) (s .small);
+}
 
 -- ---- the division by X
 
@@ -99,11 +107,7 @@ module _ {n e : ℕ} {A L : List ℤ} {r m s : ℕ} (q : ToStep n e A L r m s) w
 
     pub step-2 : ToDigit n e A L₁ s m
     step-2 = record {
-      stage = record {
-        setting = q .stage .setting;
-        right = congM-trans n (pos (2 ^ e)) (congM-eq n (pos (2 ^ e)) (·-cong n (≈-refl n (entries n A)) base₁)) (q .stage .right);
-        small = low-≈ (≈-sym base₁) (q .stage .small);
-      };
+      stage = stage-resp base₁ (q .stage);
       here = omega (arith, q .next, p₁ .long);
       low = low-≈ (≈-sym (p₁ .there)) (product-room order R-low (q .low));
       digit = omega (arith, q .digit, p₁ .long);

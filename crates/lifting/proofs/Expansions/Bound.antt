@@ -80,12 +80,16 @@ module _ (n h X : ℕ) (wide : 60 ≤ X) (A : Matrix) (low : Below n (λ i j. na
           mul-le-mul-left x (balanced-size (D i j) (p .remainder i j a b .balanced)),
         )
 
-  pub start-bounded : {B R : Matrix} → IsStart n X A B R → Bounded n h B R X
-  start-bounded {B} p = record {
-    size = λ i j a b. omega (arith, balanced-size (B i j) (p .balanced i j a b));
-    residue = digit-residue (start-digit p) (λ i j a b. omega (arith, δ-size i j));
+  -- a first digit, of a table F that is small beside X
+  pub first-bounded : {B F D T : Matrix} → Below n (λ i j. 10 * natAbs (F i j) ≤ X) → IsDigit n X A B F D T → Bounded n h D T X
+  first-bounded {D = D} small p = record {
+    size = λ i j a b. omega (arith, balanced-size (D i j) (p .remainder i j a b .balanced));
+    residue = digit-residue p (λ i j a b. omega (arith, small i j a b));
     some = omega arith;
   }
+
+  pub start-bounded : {B R : Matrix} → IsStart n X A B R → Bounded n h B R X
+  start-bounded p = first-bounded (λ i j a b. omega (arith, δ-size i j)) (start-digit p)
 
   -- a digit more
   pub digit-bounded : {B C R D T : Matrix} {x : ℕ} → Bounded n h C R x → IsDigit n X A B R D T → Bounded n h (C ⊞ pos x ⊙ D) T (x * X)

@@ -76,7 +76,7 @@ module _ (n X : ℕ) (h : 0 < X) (A : Matrix) where
       same : B ≈⟨ n ⟩ C
       same i j a c =
           balanced-unique (p .balanced i j a c) (q .balanced i j a c)
-          (inverse-unique-mod X n h A B C (start-right p) (start-right q) i j a c)
+          (inverse-unique-mod X n A B C (start-right p) (start-right q) i j a c)
 
   pub step-unique : {B C R S M N U W : Matrix} → B ≈⟨ n ⟩ C → R ≈⟨ n ⟩ S → IsStep n X A B R M U → IsStep n X A C S N W → (M ≈⟨ n ⟩ N) × (U ≈⟨ n ⟩ W)
   step-unique b r p q = digit-unique b (·-cong n r r) (p .digit) (q .digit)

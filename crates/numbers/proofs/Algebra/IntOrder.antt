@@ -1,8 +1,9 @@
 -- The magnitude of an integer. A bound on an integer is stated of its magnitude, `natAbs z ≤ n`, an order of native numbers, so that
 -- `omega arith` does what is linear. The laws of the order `_≤ℤ_` are each one `omega (arith, integers, ..)` (`IntLinear.antt`).
 use mathlib.Core.Path.{_≡_, refl}
+use mathlib.Core.Logic.{_≢_}
 use Prim.Native.Nat.{ℕ, zero, suc, _+_, _*_, _^_, _≤_, _<_}
-use native.Mathlib.Nat.{mul-le-mul}
+use native.Mathlib.Nat.{mul-le-mul, suc-mul}
 use native.Mathlib.Omega.{arith}
 use lib.IntN.{ℤ, pos, negℤ, natAbs, _+ℤ_, _-ℤ_, _*ℤ_}
 use mir.Syntax.{Width}
@@ -26,6 +27,14 @@ small-multiple x z h = natAbs-zero z (go (natAbs z) (rw natAbs-*ℤ at h))
     go : (m : ℕ) → natAbs x * m < natAbs x → m ≡ 0
     go zero k = refl
     go (suc m) k = absurd (omega arith)
+
+-- a number is no larger than a multiple of it that is not by 0
+pub multiple-le : (t v : ℤ) {u : ℤ} {Q : ℕ} → t ≢ pos 0 → u ≡ t *ℤ v → natAbs u ≤ Q → natAbs v ≤ Q
+multiple-le t v {u} {Q} f e h = go (natAbs t) (λ z. f (natAbs-zero t z)) (rw (e, natAbs-*ℤ) at h)
+  where
+    go : (m : ℕ) → m ≢ 0 → m * natAbs v ≤ Q → natAbs v ≤ Q
+    go zero g k = absurd (g refl)
+    go (suc m) g k = omega (arith, suc-mul m (natAbs v))
 
 -- a number whose magnitude is below half the range of a signed width fits it
 pub sfits : {w : Width} (z : ℤ) → natAbs z < 2 ^ hbits w → SFits w z

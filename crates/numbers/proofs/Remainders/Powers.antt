@@ -1,17 +1,35 @@
--- Powers of two divide greater ones.
+-- Powers: one divides every greater one, and what a power of two is good for as a modulus.
 use mathlib.Core.Path.{_≡_, ap, _∙_}
 use Prim.Native.Nat.{ℕ, _+_, _-_, _*_, _^_, _≤_}
+use native.Mathlib.Nat.{pow-suc, pow-zero, one-mul}
+use native.Mathlib.Numerals.{add-one}
 use native.Mathlib.Omega.{arith}
 use lib.IntN.{pos, _-ℤ_}
-use lib.Pow.{pow-add}
+use lib.Pow.{pow-add, pow-mono}
+use Rattle.numbers.specs.Numbers.{Enough}
+use Rattle.numbers.specs.Moduli.{Exponent, IsModulus}
 use Rattle.numbers.proofs.Algebra.RingSolver.{ring, #_, _⊖_, _⊗_, _≐_}
 use Rattle.numbers.proofs.Remainders.Congruence.{Cong}
 
-pub power-divides : {e j : ℕ} → e ≤ j → Cong (pos (2 ^ e)) (pos (2 ^ j)) (pos 0)
-power-divides {e} {j} h = record {
-  quot = pos (2 ^ (j - e));
-  eqn = ap (λ (m : ℕ). pos m -ℤ pos 0) split ∙ ring 2 (λ x y. x ⊗ y ⊖ # 0 ≐ x ⊗ y) tt (pos (2 ^ e)) (pos (2 ^ (j - e)));
+pub power-one : (b : ℕ) → b ^ 1 ≡ b
+power-one b = pow-suc b 0 ∙ ap (λ (m : ℕ). m * b) (pow-zero b) ∙ one-mul b
+
+pub power-more : (b m : ℕ) → b ^ (m + 1) ≡ b ^ m * b
+power-more b m = ap (λ (q : ℕ). b ^ q) (add-one m) ∙ pow-suc b m
+
+pub power-divides : (b : ℕ) {e j : ℕ} → e ≤ j → Cong (pos (b ^ e)) (pos (b ^ j)) (pos 0)
+power-divides b {e} {j} h = record {
+  quot = pos (b ^ (j - e));
+  eqn = ap (λ (m : ℕ). pos m -ℤ pos 0) split ∙ ring 2 (λ x y. x ⊗ y ⊖ # 0 ≐ x ⊗ y) tt (pos (b ^ e)) (pos (b ^ (j - e)));
 }
   where
-    split : 2 ^ j ≡ 2 ^ e * 2 ^ (j - e)
-    split = let q : j ≡ e + (j - e) = omega arith in ap (λ (m : ℕ). 2 ^ m) q ∙ pow-add 2 e (j - e)
+    split : b ^ j ≡ b ^ e * b ^ (j - e)
+    split = let q : j ≡ e + (j - e) = omega arith in ap (λ (m : ℕ). b ^ m) q ∙ pow-add b e (j - e)
+
+-- ---- an exponent that is enough
+
+pub exponent-of : {n h e : ℕ} → Enough n h e → e ≤ 32 → Exponent e
+exponent-of k l = record { from = omega (arith, k .from); upto = l }
+
+pub modulus-of : {n h e : ℕ} → Enough n h e → e ≤ 32 → IsModulus n h (2 ^ e)
+modulus-of {e = e} k l = record { from = pow-mono {i = 14} {j = e} (k .from); reaches = k .reaches; upto = pow-mono {i = e} {j = 32} l }

@@ -13,7 +13,7 @@ use Rattle.numbers.specs.Numbers.{IsRem}
 use Rattle.numbers.specs.Remainder.{rem}
 use Rattle.numbers.proofs.Remainders.Remainder.{rem-is, rem-unique}
 use Rattle.numbers.proofs.Algebra.Sum.{sum, sum-one, sum-bound}
-use Rattle.tables.specs.Tables.{Matrix, _≈⟨_⟩_, _·⟨_⟩_, block, entries, tableAt}
+use Rattle.tables.specs.Tables.{Matrix, _≈⟨_⟩_, _·⟨_⟩_, Zero, block, entries, tableAt}
 use Rattle.numbers.specs.Limits.{IsOrder}
 use Rattle.tables.specs.Buffer.{Low, RowLow, Exact, ExactAt, Dot, Product, Shrink, shrunk, Extend}
 use Rattle.tables.proofs.Algebra.Matrix.{≈-sym, ·-cong, ·-bound}
@@ -134,9 +134,9 @@ extend-room {n} {e} {L} {c} {d} r t h =
     (subst (λ (z : ℤ). natAbs z + 2 ^ e * natAbs (flat n (block n L d) t) < 2 ^ 63) (flat-block n L c t) q)
 
 -- a block that is all zero, by places
-pub zero-of : {n : ℕ} (L : List ℤ) (o : ℕ) → ((k : ℕ) → k < n * n → getD L (o * (n * n) + k) (pos 0) ≡ pos 0) → block n L o ≈⟨ n ⟩ (λ i j. pos 0)
+pub zero-of : {n : ℕ} (L : List ℤ) (o : ℕ) → ((k : ℕ) → k < n * n → getD L (o * (n * n) + k) (pos 0) ≡ pos 0) → Zero n (block n L o)
 zero-of {n} L o f i j h k = f (i * n + j) (digits-lt h k)
 
-pub zero-at : {n : ℕ} (L : List ℤ) (o t : ℕ) → IsOrder n → t < n * n → block n L o ≈⟨ n ⟩ (λ i j. pos 0) → getD L (o * (n * n) + t) (pos 0) ≡ pos 0
+pub zero-at : {n : ℕ} (L : List ℤ) (o t : ℕ) → IsOrder n → t < n * n → Zero n (block n L o) → getD L (o * (n * n) + t) (pos 0) ≡ pos 0
 zero-at {n} L o t r l z =
     sym (flat-block n L o t) ∙ z (t / n) (t % n) (div-lt-iff-lt-mul {k = n} (r .from) .1 l) (mod-lt t (r .from))

@@ -61,7 +61,7 @@ module _ {n e : ℕ} {L : List ℤ} {p q o : ℕ} (r : Remain n e L p q o) where
       pub remain-done : {M : List ℤ} → BlockPut n (λ i j. rem (2 ^ e) (block n K o i j)) o K M → BlockPut n (λ i j. rem (2 ^ e) ((block n L p ·⟨ n ⟩ block n L q) i j)) o L M
       remain-done t = record {
         long = t .long ∙ w .long;
-        there = λ i j h k. t .there i j h k ∙ rem-same (2 ^ e) (pow-pos e) (cong-down (same i j h k) (power-divides (r .upto)));
+        there = λ i j h k. t .there i j h k ∙ rem-same (2 ^ e) (pow-pos e) (cong-down (same i j h k) (power-divides 2 (r .upto)));
         rest = λ b f i j h k. t .rest b f i j h k ∙ w .rest b f i j h k;
       }
         where

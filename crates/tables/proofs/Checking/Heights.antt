@@ -12,7 +12,7 @@ use lib.ListN.{length, getD, take}
 use Rattle.numbers.specs.Limits.{IsEntry, Legal}
 use Rattle.numbers.specs.Says.{Tells}
 use Rattle.numbers.proofs.Answers.Says.{say-leb}
-use Rattle.tables.specs.Tables.{height}
+use Rattle.tables.specs.Tables.{Below, entries, height}
 use Rattle.tables.specs.Checks.{Inside, IsFirst, Finds}
 use Rattle.tables.specs.declared.checks.Outside.{Outside}
 use Rattle.tables.specs.declared.checks.Outside.the-variants.{At, Nowhere}
@@ -25,6 +25,9 @@ pub height-at : (L : List ℤ) (m : ℕ) → natAbs (getD L m (pos 0)) ≤ heigh
 height-at [] m = omega arith
 height-at (a ∷ L) zero = omega arith
 height-at (a ∷ L) (suc m) = let h = height-at L m in omega arith
+
+pub entries-low : (n : ℕ) (A : List ℤ) → Below n (λ i j. natAbs (entries n A i j) ≤ height A)
+entries-low n A i j a b = height-at A (i * n + j)
 
 -- one entry more
 pub height-take : (L : List ℤ) (i : ℕ) → i < length L → height (take (i + 1) L) ≡ max (height (take i L)) (natAbs (getD L i (pos 0)))

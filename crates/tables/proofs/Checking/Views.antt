@@ -3,12 +3,12 @@ use mathlib.Core.Path.{sym, _∙_}
 use mathlib.Core.List.{List}
 use Prim.Native.Nat.{ℕ, _+_, _*_, _≤_}
 use native.Mathlib.Nat.{suc-mul, mul-le-mul-right}
-use native.Mathlib.Decide.{ℕ-discrete, decLt, decLe}
+use native.Mathlib.Decide.{ℕ-discrete, decLt}
 use native.Mathlib.Omega.{arith}
 use lib.IntN.{ℤ}
 use lib.ListN.{length}
 use denote.Ref.{RefT, now}
-use Rattle.numbers.specs.Limits.{IsOrder}
+use Rattle.numbers.proofs.Answers.Decisions.{both?, iff?, order?}
 use Rattle.tables.specs.Views.{Stretch, Same, View, HasRow, RowGives}
 use Rattle.tables.proofs.Buffers.Places.{square-small}
 
@@ -38,18 +38,6 @@ row-fits {n} {size} {i} h =
     omega (arith, h .whole)
 
 -- ---- what `row` hands back is one
-
-pub both? : {P Q : Type 0} → Dec P → Dec Q → Dec (P × Q)
-both? (yes p) (yes q) = yes (p, q)
-both? (yes p) (no f) = no (λ h. f (h .1))
-both? (no f) d = no (λ h. f (h .0))
-
-pub iff? : {P Q : Type 0} → (P → Q) → (Q → P) → Dec P → Dec Q
-iff? f g (yes p) = yes (f p)
-iff? f g (no h) = no (λ q. h (g q))
-
-pub order? : (n : ℕ) → Dec (IsOrder n)
-order? n = iff? (λ h. record { from = h .0; upto = h .1 }) (λ o. (o .from, o .upto)) (both? (decLe 1 n) (decLe n 32))
 
 row? : (n size i : ℕ) → Dec (HasRow n size i)
 row? n size i =

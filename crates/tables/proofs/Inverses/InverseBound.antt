@@ -4,23 +4,23 @@
 use mathlib.Core.Path.{_≡_, ap, _∙_}
 use mathlib.Core.Logic.{_≢_}
 use Prim.Native.Nat.{ℕ, zero, suc, _≤_, _<_, _-_, _*_, _^_}
-use native.Mathlib.Nat.{not-suc-le-zero, mul-pos, mul-comm, le-mul-of-pos-right, pos-of-ne-zero}
+use native.Mathlib.Nat.{not-suc-le-zero, mul-pos}
 use native.Mathlib.Numerals.{sub-one}
 use native.Mathlib.Omega.{arith}
 use lib.IntN.{pos, natAbs, _*ℤ_, zero-*ℤ}
-use Rattle.numbers.proofs.Algebra.IntRing.{natAbs-*ℤ, natAbs-zero}
+use Rattle.numbers.proofs.Algebra.IntOrder.{multiple-le}
 use Rattle.numbers.proofs.Algebra.RingSolver.{#_, ⊝_}
 use Rattle.numbers.proofs.Algebra.Sum.{sum-single, δ}
 use Rattle.numbers.proofs.Counting.Pigeonhole.{skip, rank, skip-rank, skip-below, rank-below}
 use Rattle.tables.specs.Tables.{Matrix, Below, _≈⟨_⟩_, _·⟨_⟩_}
 use Rattle.tables.proofs.Algebra.MatrixSolver.{matrix, given_is_by_and_then_, 𝟙, _·ᵉ_, _⊙ᵉ_, _≑_}
-use Rattle.tables.proofs.Inverses.Siegel.{Solution, siegel, few-values}
+use Rattle.tables.proofs.Inverses.Siegel.{Solution, total-le, siegel, few-values}
 
 module _ (m h : ℕ) (pos-h : 0 < h) (A B : Matrix) (A-le : Below (suc m) (λ i j. natAbs (A i j) ≤ h)) (inverse : A ·⟨ suc m ⟩ B ≈⟨ suc m ⟩ δ) where
   -- for each j, a row that solves every column of A but j
   rows : (j : ℕ) → Solution (suc m) m ((suc m * h) ^ m) (λ i c. A i (skip j c))
   rows j =
-      siegel (suc m) m h ((suc m * h) ^ m) (λ i c. A i (skip j c)) (λ i c hi hc. A-le i (skip j c) hi (skip-below j c m hc))
+      siegel (suc m) m (suc m * h) ((suc m * h) ^ m) (λ i c. A i (skip j c)) (λ c hc. total-le (suc m) h _ (λ i hi. A-le i (skip j c) hi (skip-below j c m hc)))
       (few-values (suc m * h) m (mul-pos (omega arith) pos-h))
 
   -- these rows, and their product with A, which is 0 but for the diagonal
@@ -47,15 +47,7 @@ module _ (m h : ℕ) (pos-h : 0 < h) (A B : Matrix) (A-le : Below (suc m) (λ i 
 
     entry-le : (k : ℕ) → k < suc m → natAbs (B j k) ≤ (suc m * h) ^ m
     unfolding U
-    entry-le k hk =
-        omega (
-          arith,
-          le-mul-of-pos-right (natAbs (B j k)) (pos-of-ne-zero (λ e. T-nonzero (natAbs-zero (T j j) e))),
-          mul-comm (natAbs (B j k)) (natAbs (T j j)),
-          natAbs-*ℤ (T j j) (B j k),
-          ap natAbs (U-is k hk),
-          rows j .small k hk,
-        )
+    entry-le k hk = multiple-le (T j j) (B j k) T-nonzero (U-is k hk) (rows j .small k hk)
 
 pub inverse-bound :
     (n h : ℕ) (A B : Matrix) →

@@ -1,10 +1,10 @@
--- Siegel's lemma: m equations in n unknowns, with coefficients of magnitude at most h, have a solution in whole numbers that is
--- not all 0 and has magnitudes at most H, where (n * h * H + 1) ^ m < (H + 1) ^ n. For there are more ways to choose the unknowns from
+-- Siegel's lemma: m equations in n unknowns, in each of which the coefficients' magnitudes add up to at most s, have a solution in whole numbers that
+-- is not all 0 and has magnitudes at most H, where (s * H + 1) ^ m < (H + 1) ^ n. For there are more ways to choose the unknowns from
 -- 0 to H than there are values of the equations' left sides. So two choices give the same values, and their difference solves.
--- For m + 1 unknowns, H = ((m + 1) * h) ^ m will do.
+-- For m + 1 unknowns, H = s ^ m will do.
 use mathlib.Core.Path.{_≡_, refl, sym, ap, _∙_}
 use Prim.Native.Nat.{ℕ, zero, suc, _≤_, _<_, _+_, _*_, _-_, _^_, zero-le, suc-le-suc}
-use native.Mathlib.Nat.{lt-trans, le-trans, lt-of-le-of-lt, le-refl, le-step, le-of-eq, ne-of-lt, le-of-suc-le-suc, mul-comm, mul-assoc, mul-suc, suc-mul, mul-mul-mul-comm, mul-le-mul, sub-le, pow-zero, pow-suc, pow-succ', pow-le-pow-left, one-le-pow}
+use native.Mathlib.Nat.{lt-trans, le-trans, lt-of-le-of-lt, le-refl, le-step, le-of-eq, ne-of-lt, le-of-suc-le-suc, mul-comm, mul-add, mul-suc, suc-mul, mul-mul-mul-comm, mul-le-mul, mul-le-mul-left, sub-le, pow-zero, pow-suc, pow-succ', pow-le-pow-left, one-le-pow}
 use native.Mathlib.Omega.{arith}
 use lib.IntN.{ℤ, pos, negsuc, negℤ, natAbs, _+ℤ_, _-ℤ_, _*ℤ_, +ℤ-idl}
 use Rattle.numbers.proofs.Algebra.IntRing.{+ℤ-cancelʳ, eq-of-sub}
@@ -21,10 +21,10 @@ weigh : ℕ → ℤ → ℕ → ℕ
 weigh H (pos p) d = d * p
 weigh H (negsuc q) d = (H - d) * suc q
 
-weigh-le : (H h : ℕ) (c : ℤ) (d : ℕ) → d ≤ H → natAbs c ≤ h → weigh H c d ≤ h * H
+weigh-le : (H : ℕ) (c : ℤ) (d : ℕ) → d ≤ H → weigh H c d ≤ H * natAbs c
 unfolding weigh
-weigh-le H h (pos p) d hd hc = rw (mul-comm h H) (mul-le-mul hd hc)
-weigh-le H h (negsuc q) d hd hc = rw (mul-comm h H) (mul-le-mul (sub-le H d) hc)
+weigh-le H (pos p) d hd = mul-le-mul hd (le-refl p)
+weigh-le H (negsuc q) d hd = mul-le-mul (sub-le H d) (le-refl (suc q))
 
 weigh-sub : (H : ℕ) (c : ℤ) (a b : ℕ) → a ≤ H → b ≤ H → pos (weigh H c a) ≡ (pos a -ℤ pos b) *ℤ c +ℤ pos (weigh H c b)
 unfolding weigh
@@ -38,14 +38,19 @@ natAbs-diff H a b ha hb = omega (arith, parts (pos a -ℤ pos b), sums (pos a) (
 
 -- ---- a left side, as a natural number
 
-total : ℕ → (ℕ → ℕ) → ℕ
+unfoldable pub total : ℕ → (ℕ → ℕ) → ℕ
 total zero f = 0
 total (suc n) f = total n f + f n
 
-total-le : (n b : ℕ) (f : ℕ → ℕ) → ((i : ℕ) → i < n → f i ≤ b) → total n f ≤ n * b
+pub total-le : (n b : ℕ) (f : ℕ → ℕ) → ((i : ℕ) → i < n → f i ≤ b) → total n f ≤ n * b
 unfolding total
 total-le zero b f h = zero-le
 total-le (suc n) b f h = omega (arith, suc-mul n b, h n (le-refl (suc n)), total-le n b f (λ i k. h i (le-step k)))
+
+total-scale : (n b : ℕ) (f g : ℕ → ℕ) → ((i : ℕ) → i < n → f i ≤ b * g i) → total n f ≤ b * total n g
+unfolding total
+total-scale zero b f g h = zero-le
+total-scale (suc n) b f g h = omega (arith, mul-add b (total n g) (g n), h n (le-refl (suc n)), total-scale n b f g (λ i k. h i (le-step k)))
 
 pos-total : (n : ℕ) (f : ℕ → ℕ) → pos (total n f) ≡ sum n (λ i. pos (f i))
 unfolding total sum
@@ -60,7 +65,7 @@ pub record Solution (n m H : ℕ) (C : ℕ → ℕ → ℤ) : Type 0 where
   pub solves : (c : ℕ) → c < m → sum n (λ i. unknown i *ℤ C i c) ≡ pos 0
   pub nonzero : ¬ ((i : ℕ) → i < n → unknown i ≡ pos 0)
 
-module _ (n m h H : ℕ) (C : ℕ → ℕ → ℤ) (C-le : (i c : ℕ) → i < n → c < m → natAbs (C i c) ≤ h) where
+module _ (n m s H : ℕ) (C : ℕ → ℕ → ℤ) (C-le : (c : ℕ) → c < m → total n (λ i. natAbs (C i c)) ≤ s) where
   -- unknown i at the choice x, and the left side c
   at : ℕ → ℕ → ℕ
   at x i = digit (suc H) x i
@@ -72,9 +77,11 @@ module _ (n m h H : ℕ) (C : ℕ → ℕ → ℤ) (C-le : (i c : ℕ) → i < n
   unfolding at
   at-le x i = le-of-suc-le-suc (digit-below (suc H) x i (omega arith))
 
-  side-below : (x c : ℕ) → c < m → side x c < suc (n * h * H)
+  side-below : (x c : ℕ) → c < m → side x c < suc (s * H)
   unfolding side
-  side-below x c k = rw mul-assoc (suc-le-suc (total-le n (h * H) _ (λ i l. weigh-le H h (C i c) _ (at-le x i) (C-le i c l k))))
+  side-below x c k =
+      rw (mul-comm s H)
+      (suc-le-suc (le-trans (total-scale n H _ (λ i. natAbs (C i c)) (λ i l. weigh-le H (C i c) _ (at-le x i))) (mul-le-mul-left H (C-le c k))))
 
   diff-solves : (x y c : ℕ) → side x c ≡ side y c → sum n (λ i. (pos (at x i) -ℤ pos (at y i)) *ℤ C i c) ≡ pos 0
   unfolding side
@@ -87,7 +94,7 @@ module _ (n m h H : ℕ) (C : ℕ → ℕ → ℤ) (C-le : (i c : ℕ) → i < n
       ∙ ap pos e
       ∙ sym (+ℤ-idl (pos (side y c))))
 
-  pub siegel : suc (n * h * H) ^ m < suc H ^ n → Solution n m H C
+  pub siegel : suc (s * H) ^ m < suc H ^ n → Solution n m H C
   unfolding at
   siegel few =
       let (x, y, l, k, e) = pigeonhole (suc H ^ n) _ (λ x. number _ (side x) m) few (λ x l. number-below _ (side x) m (side-below x)) in

@@ -1,4 +1,4 @@
--- A right inverse modulo X is a left inverse, for every X from 1 up, and so is a whole right inverse. There are finitely many tables modulo X,
+-- A right inverse modulo X is a left inverse, and so is a whole right inverse, which is one modulo 0. There are finitely many tables modulo X from 1 up,
 -- so two powers of the inverse B are congruent, B^i and B^(i+m+1). Times A^i they are I and B^(m+1), so B·D = I for D = B^m, and B·A = I with it.
 -- Hence an inverse is the only one.
 use mathlib.Core.Path.{_≡_, ap, _∙_}
@@ -10,7 +10,7 @@ use lib.IntN.{ℤ, pos, natAbs, _-ℤ_}
 use Rattle.numbers.specs.Remainder.{residue}
 use Rattle.numbers.proofs.Algebra.RingSolver.{#_, ⊝_}
 use Rattle.numbers.proofs.Algebra.Sum.{δ}
-use Rattle.numbers.proofs.Remainders.Congruence.{cong-of-eq, cong-sym, cong-trans, cong-near}
+use Rattle.numbers.proofs.Remainders.Congruence.{cong-of-eq, cong-sym, cong-trans, cong-near, cong-zero}
 use Rattle.numbers.proofs.Remainders.Division.{residue-below, residue-cong}
 use Rattle.numbers.proofs.Counting.Pigeonhole.{pigeonhole}
 use Rattle.numbers.proofs.Counting.Digits.{number, number-below, number-inj}
@@ -72,8 +72,8 @@ module _ (n : ℕ) (x : ℤ) (A B : Matrix) (right : CongM n x (A ·⟨ n ⟩ B)
       B D (powerʳ n A i) (power n B (i + 0)) (power n B (i + suc m)) e (cancel i 0) (cancel i (suc m)) in
       modular n x 0 3 (λ A B D. given A ·ᵉ B is 𝟙 by B and D then given B ·ᵉ D is 𝟙 by 𝟙 ⊟ᵉ B ·ᵉ A and 𝟙 then B ·ᵉ A ≑ 𝟙) tt A B D right one
 
-pub two-sided : (X n : ℕ) → 0 < X → (A B : Matrix) → CongM n (pos X) (A ·⟨ n ⟩ B) δ → CongM n (pos X) (B ·⟨ n ⟩ A) δ
-two-sided X n h A B right =
+two-sided-above : (X n : ℕ) → 0 < X → (A B : Matrix) → CongM n (pos X) (A ·⟨ n ⟩ B) δ → CongM n (pos X) (B ·⟨ n ⟩ A) δ
+two-sided-above X n h A B right =
     let f : ℕ → ℕ = λ k. code X n (power n B k) in
     let (i, j, l, k, e) = pigeonhole (suc (X ^ (n * n))) (X ^ (n * n)) f (le-refl (suc (X ^ (n * n)))) (λ k z. code-below X n h (power n B k)) in
     let r : i + 0 ≡ i = omega arith in
@@ -83,12 +83,16 @@ two-sided X n h A B right =
 pub two-sided-whole : (n : ℕ) (A B : Matrix) → A ·⟨ n ⟩ B ≈⟨ n ⟩ δ → B ·⟨ n ⟩ A ≈⟨ n ⟩ δ
 two-sided-whole n A B right i j h k =
     let z : ℤ = (B ·⟨ n ⟩ A) i j -ℤ δ i j in
-    cong-near (two-sided (suc (natAbs z)) n (omega arith) A B (congM-eq n (pos (suc (natAbs z))) right) i j h k) (le-refl (suc (natAbs z)))
+    cong-near (two-sided-above (suc (natAbs z)) n (omega arith) A B (congM-eq n (pos (suc (natAbs z))) right) i j h k) (le-refl (suc (natAbs z)))
+
+pub two-sided : (X n : ℕ) (A B : Matrix) → CongM n (pos X) (A ·⟨ n ⟩ B) δ → CongM n (pos X) (B ·⟨ n ⟩ A) δ
+two-sided zero n A B right = congM-eq n (pos 0) (two-sided-whole n A B (λ i j h k. cong-zero (right i j h k)))
+two-sided (suc X) n A B right = two-sided-above (suc X) n (omega arith) A B right
 
 -- A has at most one whole inverse
 pub inverse-unique : (n : ℕ) (A B C : Matrix) → A ·⟨ n ⟩ B ≈⟨ n ⟩ δ → A ·⟨ n ⟩ C ≈⟨ n ⟩ δ → B ≈⟨ n ⟩ C
 inverse-unique n A B C b c = whole-unique n A B C (two-sided-whole n A B b) c
 
 -- and modulo X, up to congruence
-pub inverse-unique-mod : (X n : ℕ) → 0 < X → (A B C : Matrix) → CongM n (pos X) (A ·⟨ n ⟩ B) δ → CongM n (pos X) (A ·⟨ n ⟩ C) δ → CongM n (pos X) B C
-inverse-unique-mod X n h A B C b c = inverses-meet n (pos X) A B C (two-sided X n h A B b) c
+pub inverse-unique-mod : (X n : ℕ) (A B C : Matrix) → CongM n (pos X) (A ·⟨ n ⟩ B) δ → CongM n (pos X) (A ·⟨ n ⟩ C) δ → CongM n (pos X) B C
+inverse-unique-mod X n A B C b c = inverses-meet n (pos X) A B C (two-sided X n A B b) c

@@ -1,5 +1,7 @@
 use Rattle.lifting.proofs.Calls.Holding.{in-buffer}
-use Rattle.verdict.proofs.Column.{Linear, copy-asks, copied-start, copied-column, copied-fails, linear-first, linear-more, digit-asks, fails-not, fails-so}
+use Rattle.lifting.proofs.Calls.Following.{Follows, follows-asks, follows-more}
+use Rattle.numbers.proofs.Algebra.Sum.{δ}
+use Rattle.verdict.proofs.Column.{copy-asks, copied-start, copied-column, copied-fails, follows-start, fails-not, fails-so}
 use native.Mathlib.Omega.{arith}
 use Prim.Native.Nat.{_-_, _≤_}
 use mathlib.Core.Path.{_≡_, sym, _∙_}
@@ -10,7 +12,7 @@ use Rattle.verdict.proofs.fails.Statement.{statement}
 use Rattle.verdict.proofs.fails.Tie as tie
 
 abbrev Inv-loop : tie.InvT-loop
-Inv-loop n a buf₀ t₀ buf t = (t ≤ n) × ((1 ≤ t) × Linear n a buf₀ t buf)
+Inv-loop n a buf₀ t₀ buf t = (t ≤ n) × ((1 ≤ t) × Follows n a δ buf₀ t buf)
 
 abbrev μ-loop : tie.MeasureT-loop
 μ-loop n a buf₀ t₀ buf t = n - t
@@ -22,11 +24,11 @@ loop-holds : tie.Need-loop-holds Inv-loop μ-loop
 loop-holds c =
     let p = c .before .copy .ensures in
     let s = c .before .before .before in
-    (s .pre .0 .order .from, (omega arith, linear-first (s .pre .0) (p .long ∙ s .pre .1 .0) (copied-start p (s .args .a .now) (s .pre .1 .1)) (copied-column p (s .pre .0 .order .from))))
+    (s .pre .0 .order .from, (omega arith, follows-start (s .pre .0) (p .long ∙ s .pre .1 .0) (copied-start p (s .args .a .now) (s .pre .1 .1)) (copied-column p (s .pre .0 .order .from))))
 
 -- a turn of the loop: that the column stands in the buffer, and the buffer's length
 here : (l : tie.At-loop Inv-loop μ-loop) → let n = l .before .before .before .before .args .n in IsOrder n × Has n (l .loop .buf) 2
-here l = let q = l .loop .inv .1 .1 in (q .law .order, in-buffer 2 (q .law .order .upto) (omega arith) (q .long))
+here l = let q = l .loop .inv .1 .1 in (q .stage .setting .lawful .order, in-buffer 2 (q .stage .setting .lawful .order .upto) (omega arith) (q .long))
 
 long : (l : tie.At-loop Inv-loop μ-loop) → length (l .loop .buf) ≡ length (l .before .before .before .before .args .buf .now)
 long l = l .loop .inv .1 .1 .long ∙ sym (l .before .before .before .before .pre .1 .0)
@@ -41,7 +43,7 @@ returns : tie.Need-returns Inv-loop μ-loop
 returns c = let l = c .before .before .before .before in copied-fails (l .before .before .copy .ensures) (fails-not (l .loop .inv .1 .1))
 
 column-digit-requires : tie.Need-column-digit-requires Inv-loop μ-loop
-column-digit-requires c κs = digit-asks (c .before .before .before .before .before .loop .inv .1 .1)
+column-digit-requires c κs = follows-asks (c .before .before .before .before .before .loop .inv .1 .1)
 
 add-t : tie.Need-add-t Inv-loop μ-loop
 add-t c = omega arith
@@ -50,7 +52,7 @@ loop-less : tie.Need-loop-less Inv-loop μ-loop
 loop-less c = omega arith
 
 loop-again : tie.Need-loop-again Inv-loop μ-loop
-loop-again c = (omega arith, (omega arith, linear-more (c .before .before .before .before .before .before .before .loop .inv .1 .1) (c .before .column-digit .ensures)))
+loop-again c = (omega arith, (omega arith, follows-more (c .before .before .before .before .before .before .before .loop .inv .1 .1) (c .before .column-digit .ensures)))
 
 vanishes-requires-2 : tie.Need-vanishes-requires-2 Inv-loop μ-loop
 vanishes-requires-2 c κs = here (c .before .before)

@@ -55,7 +55,7 @@ settle-requires c κs =
     let q = c .before .before .before .loop .inv .1 .1 .1 in
     let n = s .args .n in
     let A = entries n (s .args .a .now) in
-    ((omega arith, q .0), λ none. stuck 2 (record { quot = pos (2 ^ 31); eqn = refl }) (omega arith) (omega arith) (q .1) none (has-turned 2 n (omega arith) A (s .pre .0 .1)))
+    ((omega arith, q .0), λ none. stuck 2 (record { quot = pos (2 ^ 31); eqn = refl }) (omega arith) (omega arith) (q .1) none (has-turned 2 n A (s .pre .0 .1)))
 
 add-r : tie.Need-add-r Inv-loop μ-loop
 add-r c = omega arith
@@ -80,7 +80,7 @@ returns c =
     let s = c .before .before .before .before .before .before .before .before .before .before .before .before in
     let n = s .args .n in
     let l = c .before .loop in
-    (l .inv .1 .0 ∙ c .before .before .before .before .before .before .before .before .ones .ensures .0, inverse-turned (2 ^ 32) n (omega arith) (entries n (s .args .a .now) ᵀ) (residues n (l .c) ᵀ) (found (omega arith) (l .inv .1 .1 .1 .1)))
+    (l .inv .1 .0 ∙ c .before .before .before .before .before .before .before .before .ones .ensures .0, inverse-turned (2 ^ 32) n (entries n (s .args .a .now) ᵀ) (residues n (l .c) ᵀ) (found (omega arith) (l .inv .1 .1 .1 .1)))
 
 pub solve-spec : {M : Type 1} → statement M
 solve-spec =

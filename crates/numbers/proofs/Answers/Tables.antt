@@ -1,0 +1,15 @@
+-- The head of the lists that begin with order, length and entries (`tableRefusals`): a lawful table passes it, and what passes it is lawful.
+use mathlib.Core.Path.{_≡_}
+use mathlib.Core.List.{List}
+use Prim.Native.Nat.{ℕ, _*_}
+use lib.IntN.{ℤ}
+use lib.ListN.{length}
+use Rattle.numbers.specs.Limits.{Lawful, tableRefusals}
+use Rattle.numbers.proofs.Answers.Refusals.{Passes}
+use Rattle.numbers.proofs.Answers.Decisions.{stable, order?, legal?}
+
+pub lawful-passes : {n : ℕ} {A : List ℤ} (P : Type 0) → Lawful n A → ¬ P → Passes (tableRefusals n P A)
+lawful-passes P law f = (λ o. o (law .order), (f, (λ l. l (law .legal), tt)))
+
+pub passes-lawful : (n : ℕ) (P : Type 0) (A : List ℤ) → (¬ P → length A ≡ n * n) → Passes (tableRefusals n P A) → Lawful n A
+passes-lawful n P A size p = record { order = stable (order? n) (p .0); size = size (p .1 .0); legal = stable (legal? A) (p .1 .1 .0) }
