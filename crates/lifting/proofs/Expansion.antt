@@ -5,13 +5,14 @@ use mathlib.Core.Logic.{_↔_}
 use mathlib.Core.List.{List}
 use Prim.Native.Nat.{ℕ, zero, suc, _+_, _-_, _*_, _^_, _≤_, _<_}
 use native.Mathlib.Omega.{arith}
-use native.Mathlib.Nat.{pow-suc, pow-zero, one-mul, one-le-pow, two-pow-succ}
+use native.Mathlib.Nat.{pow-suc, one-le-pow, two-pow-succ}
 use lib.IntN.{ℤ, pos, natAbs}
 use lib.Pow.{pow-add, pow-mono, pow-pos}
 use Rattle.numbers.specs.Numbers.{Enough}
 use Rattle.numbers.proofs.Algebra.Sum.{δ}
-use Rattle.tables.specs.Tables.{Matrix, Below, _≈⟨_⟩_, _⊟_, _⊙_, _·⟨_⟩_, entries, block, height, HasInverseMod}
-use Rattle.tables.proofs.Checking.Heights.{height-at}
+use Rattle.numbers.proofs.Remainders.Powers.{power-one}
+use Rattle.tables.specs.Tables.{Matrix, Below, _≈⟨_⟩_, _⊟_, _⊙_, _·⟨_⟩_, Zero, entries, block, height, HasInverseMod}
+use Rattle.tables.proofs.Checking.Heights.{entries-low}
 use Rattle.lifting.specs.Lifting.{IsExpansion, LiftGives}
 use Rattle.lifting.specs.Meaning.{modulus, lifted}
 use Rattle.tables.proofs.Inverses.Powers.{power-mod}
@@ -43,7 +44,7 @@ zero-stays h p = stays h (p .blocks)
 -- X_i = X^(2^(i+1) - 1)
 pub modulus-power : (X i : ℕ) → modulus X i ≡ X ^ (2 ^ (i + 1) - 1)
 unfolding modulus
-modulus-power X zero = sym (pow-suc X 0 ∙ ap (λ (y : ℕ). y * X) (pow-zero X) ∙ one-mul X)
+modulus-power X zero = sym (power-one X)
 modulus-power X (suc i) =
     let m : ℕ = 2 ^ (i + 1) - 1 in
     let e : suc i + 1 ≡ suc (i + 1) = omega arith in
@@ -70,4 +71,4 @@ module _ {n s e : ℕ} {A L E : List ℤ} (p : LiftGives n s e A L 0 E) where
   pub lift-bound : (i : ℕ) → i ≤ s → Below n (λ a b. 5 * natAbs (block n E (2 * i + 1) a b) ≤ 3 * (n * height A))
   lift-bound =
       let q : Enough n (height A) e = lift-enough p in
-      residue-bound (omega (arith, pow-mono {i = 14} {j = e} (q .from))) (q .reaches) (λ i j a b. height-at A (i * n + j)) (p .written refl)
+      residue-bound (omega (arith, pow-mono {i = 14} {j = e} (q .from))) (q .reaches) (entries-low n A) (p .written refl)

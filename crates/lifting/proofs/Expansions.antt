@@ -3,6 +3,7 @@ pub mod Exists
 pub mod Unique
 pub mod Meaning
 pub mod Bound
+pub mod Stands
 pub mod Linear
 pub mod Residues
 pub mod Vanishing

@@ -1,18 +1,18 @@
 -- Sizes of tables, so that every sum on the way is exact: entries within 2^20, B_0 and digits within 2^31, residues within 2^25.
 use mathlib.Core.List.{List}
 use mathlib.Core.Logic.{_≢_}
-use Prim.Native.Nat.{ℕ, _+_, _*_, _^_, _≤_}
-use native.Mathlib.Nat.{le-trans}
+use Prim.Native.Nat.{ℕ, _+_, _*_, _^_, _≤_, _<_}
+use native.Mathlib.Nat.{le-trans, mul-le-mul}
 use native.Mathlib.Omega.{arith}
 use lib.IntN.{ℤ}
-use lib.Pow.{pow-pos, pow-mono}
 use Rattle.numbers.specs.Limits.{IsOrder, Lawful}
 use Rattle.numbers.specs.Numbers.{Balanced}
 use Rattle.numbers.proofs.Remainders.Remainder.{rem-is, balanced-size}
-use Rattle.tables.specs.Tables.{Matrix, Below, _·⟨_⟩_, block, entries}
+use Rattle.tables.specs.Tables.{Matrix, Below, _·⟨_⟩_, block, entries, height}
 use Rattle.tables.specs.Buffer.{Low, Has, Product}
 use Rattle.tables.proofs.Checking.Heights.{height-at, legal-height}
 use Rattle.lifting.specs.Steps.{rems}
+use Rattle.lifting.proofs.Expansions.Stands.{Stands}
 use Rattle.tables.proofs.Algebra.Matrix.{·-bound}
 
 pub low-more : {n c d : ℕ} {A : Matrix} → c ≤ d → Low n c A → Low n d A
@@ -21,14 +21,22 @@ low-more h l = record { low = λ i j a b. le-trans (l .low i j a b) h }
 pub low-product : {n c d : ℕ} {A B : Matrix} (k : ℕ) → Low n c A → Low n d B → n * (c * d) ≤ k → Low n k (A ·⟨ n ⟩ B)
 low-product {n} {c} {d} {A} {B} k p q h = record { low = λ i j a b. le-trans (·-bound n A B {a = c} {b = d} (p .low) (q .low) i j a b) h }
 
-pub low-balanced : {n e : ℕ} {B : Matrix} → e ≤ 32 → Below n (λ i j. Balanced (2 ^ e) (B i j)) → Low n (2 ^ 31) B
-low-balanced {n} {e} {B} h p = record { low = λ i j a b. omega (arith, balanced-size (B i j) (p i j a b), pow-mono {i = e} {j = 32} h) }
+pub low-balanced : {n X : ℕ} {B : Matrix} → X ≤ 2 ^ 32 → Below n (λ i j. Balanced X (B i j)) → Low n (2 ^ 31) B
+low-balanced {B = B} h p = record { low = λ i j a b. omega (arith, balanced-size (B i j) (p i j a b)) }
 
-pub low-rems : {n : ℕ} (e : ℕ) (F : Matrix) → e ≤ 32 → Low n (2 ^ 31) (rems (2 ^ e) F)
-low-rems e F h = low-balanced {e = e} {B = rems (2 ^ e) F} h (λ i j a b. rem-is (2 ^ e) (pow-pos e) (F i j) .balanced)
+pub low-rems : {n X : ℕ} (F : Matrix) → 0 < X → X ≤ 2 ^ 32 → Low n (2 ^ 31) (rems X F)
+low-rems {X = X} F some h = low-balanced {B = rems X F} h (λ i j a b. rem-is X some (F i j) .balanced)
 
 pub low-entries : {n : ℕ} {A : List ℤ} → Lawful n A → Low n (2 ^ 20) (entries n A)
 low-entries {n} {A} l = record { low = λ i j a b. omega (arith, height-at A (i * n + j), legal-height A (l .legal)) }
+
+-- 3·n·h / 5 is at most 2^25
+pub stands-low : {n : ℕ} {A : List ℤ} {F R : Matrix} {x : ℕ} → Lawful n A → Stands n (height A) (entries n A) F R x → Low n (2 ^ 25) R
+stands-low {n} {A} law q = record {
+  low = λ i j a b.
+      let m : n * height A ≤ 32 * 2 ^ 20 = mul-le-mul {n₂ = 32} {m₂ = 2 ^ 20} (law .order .upto) (legal-height A (law .legal)) in
+      omega (arith, q .bounded .residue i j a b);
+}
 
 -- ---- the product of a table within 2^31 and one within 2^25
 

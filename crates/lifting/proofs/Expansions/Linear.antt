@@ -1,50 +1,49 @@
--- A table F lifted digit by digit at X = 2^32: A·C = F - X^m·R with 5·|C| ≤ 3·X^m. Where A has an inverse modulo X, and X^m is large enough,
--- C is the whole solution of A·S = F if there is one, and R is 0.
-use mathlib.Core.Path.{_≡_, sym, ap, subst, _∙_}
-use mathlib.Core.List.{List}
-use Prim.Native.Nat.{ℕ, _+_, _*_, _^_, _≤_, _<_}
+-- Linear lifting, over any X and any table F: a residue stands for the sum of the digits so far, once X was used; it is one; and it exists.
+use mathlib.Core.Path.{_≡_, refl, sym, subst}
+use Prim.Native.Nat.{ℕ, zero, suc, _+_, _*_, _^_, _≤_, _<_}
 use native.Mathlib.Nat.{pow-suc}
-use native.Mathlib.Numerals.{add-one}
 use native.Mathlib.Omega.{arith}
-use lib.IntN.{ℤ, pos, natAbs}
-use Rattle.tables.specs.Tables.{Matrix, Below, _≈⟨_⟩_, _·⟨_⟩_, _⊞_, _⊟_, _⊙_, entries, height, HasInverseMod}
-use Rattle.tables.proofs.Algebra.Matrix.{𝟘}
-use Rattle.tables.proofs.Checking.Heights.{height-at}
-use Rattle.tables.proofs.Inverses.Powers.{power-mod}
-use Rattle.tables.proofs.Inverses.Residue.{near-zero}
-use Rattle.tables.proofs.Inverses.TwoSided.{two-sided}
-use Rattle.lifting.specs.Lifting.{IsDigit}
+use lib.IntN.{pos, natAbs}
+use Rattle.numbers.proofs.Algebra.Sum.{δ}
+use Rattle.numbers.proofs.Remainders.Powers.{power-one}
+use Rattle.numbers.proofs.Remainders.Remainder.{rem-is}
+use Rattle.tables.specs.Tables.{Matrix, Below, _≈⟨_⟩_, _⊞_, _⊟_, _⊙_, _·⟨_⟩_, CongM}
+use Rattle.tables.proofs.Algebra.Matrix.{≈-refl}
+use Rattle.lifting.specs.Lifting.{IsStart, IsDigit}
+use Rattle.lifting.specs.Linear.{IsLinear, unused, used}
+use Rattle.lifting.specs.Steps.{digitOf, nextResidue}
+use Rattle.lifting.proofs.Expansions.Rules.{start-digit, digit-resp, digit-unique, digit-exists}
 use Rattle.lifting.proofs.Expansions.Meaning.{first-means, digit-means}
 use Rattle.lifting.proofs.Expansions.Bound.{Bounded, first-bounded, digit-bounded}
+use Rattle.lifting.proofs.Expansions.Stands.{Stands}
 
-pub record Linear (n : ℕ) (A : List ℤ) (F : Matrix) (m : ℕ) (C R : Matrix) : Type 0 where
-  pub means : entries n A ·⟨ n ⟩ C ≈⟨ n ⟩ F ⊟ pos ((2 ^ 32) ^ m) ⊙ R
-  pub bounded : Bounded n (height A) C R ((2 ^ 32) ^ m)
+-- R_0 is the residue after X was used once
+pub linear-start : {n X : ℕ} {A B R : Matrix} → IsStart n X A B R → IsLinear n X A B δ 1 R
+linear-start s = used unused (start-digit s)
 
--- with the power as any number
-at : {n : ℕ} {A : List ℤ} {F : Matrix} {m : ℕ} {C R : Matrix} (x : ℕ) → x ≡ (2 ^ 32) ^ m → entries n A ·⟨ n ⟩ C ≈⟨ n ⟩ F ⊟ pos x ⊙ R → Bounded n (height A) C R x → Linear n A F m C R
-at {n} {A} {F} {m} {C} {R} x e means bounded = record {
-  means = subst (λ (x : ℕ). entries n A ·⟨ n ⟩ C ≈⟨ n ⟩ F ⊟ pos x ⊙ R) e means;
-  bounded = subst (λ (x : ℕ). Bounded n (height A) C R x) e bounded;
-}
+-- the digit and the residue after it, computed
+pub linear-more : {n X : ℕ} {A B F : Matrix} {m : ℕ} {R : Matrix} → 0 < X → CongM n (pos X) (A ·⟨ n ⟩ B) δ → IsLinear n X A B F m R → IsLinear n X A B F (suc m) (nextResidue n X A B R)
+linear-more {n} {X} {A} {B} {R = R} h right p = used p (digit-exists right R (digitOf n X B R) (λ i j a b. rem-is X h ((B ·⟨ n ⟩ R) i j)))
 
--- the entries keep the height
-pub low : (n : ℕ) (A : List ℤ) → Below n (λ i j. natAbs (entries n A i j) ≤ height A)
-low n A i j a b = height-at A (i * n + j)
+-- of a B_0 that agrees
+pub linear-resp : {n X : ℕ} {A B C F : Matrix} {m : ℕ} {R : Matrix} → B ≈⟨ n ⟩ C → IsLinear n X A B F m R → IsLinear n X A C F m R
+linear-resp b unused = unused
+linear-resp {n} b (used {R = R} {D = D} {T = T} p d) = used (linear-resp b p) (digit-resp d b (≈-refl n R) (≈-refl n D) (≈-refl n T))
 
-pub linear-first : {n : ℕ} {A : List ℤ} {B F D T : Matrix} → Below n (λ i j. 10 * natAbs (F i j) ≤ 2 ^ 32) → IsDigit n (2 ^ 32) (entries n A) B F D T → Linear n A F 1 D T
-linear-first {n} {A} small p = at (2 ^ 32) (omega arith) (first-means p) (first-bounded n (height A) (2 ^ 32) (omega arith) (entries n A) (low n A) small p)
+pub linear-unique : {n X : ℕ} {A B C F : Matrix} {m : ℕ} {R S : Matrix} → 0 < X → B ≈⟨ n ⟩ C → IsLinear n X A B F m R → IsLinear n X A C F m S → R ≈⟨ n ⟩ S
+linear-unique {n} {F = F} h b unused unused = ≈-refl n F
+linear-unique {n} {X} {A} h b (used p d) (used q e) = digit-unique n X h A b (linear-unique h b p q) d e .1
 
-module _ {n : ℕ} {A : List ℤ} {F : Matrix} {m : ℕ} {C R : Matrix} (q : Linear n A F m C R) where
-  pub linear-more : {B D T : Matrix} → IsDigit n (2 ^ 32) (entries n A) B R D T → Linear n A F (m + 1) (C ⊞ pos ((2 ^ 32) ^ m) ⊙ D) T
-  linear-more p =
-      at ((2 ^ 32) ^ m * 2 ^ 32) (sym (ap (λ (k : ℕ). (2 ^ 32) ^ k) (add-one m) ∙ pow-suc (2 ^ 32) m)) (digit-means F p ((2 ^ 32) ^ m) C (q .means))
-      (digit-bounded n (height A) (2 ^ 32) (omega arith) (entries n A) (low n A) (q .bounded) p)
-
-  -- a solution within 2/5 of X^m leaves no residue
-  pub linear-zero : HasInverseMod n (2 ^ 32) (entries n A) → (S : Matrix) → entries n A ·⟨ n ⟩ S ≈⟨ n ⟩ F → Below n (λ i j. 5 * natAbs (S i j) < 2 * (2 ^ 32) ^ m) → R ≈⟨ n ⟩ 𝟘
-  linear-zero w S solves small =
-      let u = power-mod (2 ^ 32) n (entries n A) w m in
-      let x : ℕ = (2 ^ 32) ^ m in
-      near-zero n (pos x) (entries n A) (u .inverse) F S C R (two-sided x n (q .bounded .some) (entries n A) (u .inverse) (u .right)) solves (q .means)
-      (λ i j a b. omega (arith, small i j a b, q .bounded .size i j a b))
+-- what a residue stands for, where F is small beside X
+pub linear-stands : (n h X : ℕ) → 60 ≤ X → (A : Matrix) → Below n (λ i j. natAbs (A i j) ≤ h) → {B F : Matrix} → Below n (λ i j. 10 * natAbs (F i j) ≤ X)
+    → {m : ℕ} {R : Matrix} → 1 ≤ m → IsLinear n X A B F m R → Stands n h A F R (X ^ m)
+linear-stands n h X wide A low small l unused = absurd (omega arith)
+linear-stands n h X wide A low {F = F} small l (used {D = D} {T = T} unused d) =
+    subst (λ (x : ℕ). Stands n h A F T x) (sym (power-one X)) (record { sum = D; means = first-means d; bounded = first-bounded n h X wide A low small d })
+linear-stands n h X wide A low {F = F} small l (used {D = D} {T = T} (used {m = m} p c) d) =
+    let q = linear-stands n h X wide A low small (omega arith) (used p c) in
+    subst (λ (x : ℕ). Stands n h A F T x) (sym (pow-suc X (suc m))) (record {
+      sum = q .sum ⊞ pos (X ^ suc m) ⊙ D;
+      means = digit-means F d (X ^ suc m) (q .sum) (q .means);
+      bounded = digit-bounded n h X wide A low (q .bounded) d;
+    })

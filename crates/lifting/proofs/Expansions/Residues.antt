@@ -1,15 +1,16 @@
--- A residue R_t stands for a table C, B_t of document 01: A·C = I - X_t·R_t, and 5·|C| ≤ 3·X_t.
+-- A residue R_t stands for B_t of document 01: A·B_t = I - X_t·R_t, and 5·|B_t| ≤ 3·X_t.
 use mathlib.Core.Path.{_≡_, sym, subst}
 use mathlib.Core.List.{List}
 use Prim.Native.Nat.{ℕ, zero, suc, _+_, _*_, _≤_}
 use native.Mathlib.Omega.{arith}
 use lib.IntN.{ℤ, pos, natAbs}
 use Rattle.numbers.proofs.Algebra.Sum.{δ}
-use Rattle.tables.specs.Tables.{Matrix, Below, _≈⟨_⟩_, _⊟_, _⊙_, _·⟨_⟩_, block}
+use Rattle.tables.specs.Tables.{Matrix, Below, block}
 use Rattle.lifting.specs.Lifting.{IsStart, IsResidue, first, later, Upto}
 use Rattle.lifting.specs.Meaning.{modulus, next}
 use Rattle.lifting.proofs.Expansions.Meaning.{start-means, step-means}
-use Rattle.lifting.proofs.Expansions.Bound.{Bounded, start-bounded, step-bounded}
+use Rattle.lifting.proofs.Expansions.Bound.{start-bounded, step-bounded}
+use Rattle.lifting.proofs.Expansions.Stands.{Stands}
 
 -- the blocks of an expansion are the residues
 pub upto-residue : {n X s : ℕ} {A : Matrix} {L : List ℤ} → Upto n X s A L → (t : ℕ) → t ≤ s → IsResidue n X A (block n L 0) t (block n L (2 * t + 1))
@@ -22,18 +23,13 @@ pub residue-start : {n X : ℕ} {A B : Matrix} {t : ℕ} {R : Matrix} → IsResi
 residue-start (first {R = R} p) = (R, p)
 residue-start (later q p) = residue-start q
 
-pub record Stands (n h : ℕ) (A R : Matrix) (x : ℕ) : Type 0 where
-  pub inverse : Matrix
-  pub means : A ·⟨ n ⟩ inverse ≈⟨ n ⟩ δ ⊟ pos x ⊙ R
-  pub bounded : Bounded n h inverse R x
-
-pub stands : (n h X : ℕ) → 60 ≤ X → 4 * (n * n) * h ≤ X → (A : Matrix) → Below n (λ i j. natAbs (A i j) ≤ h) → {B : Matrix} {t : ℕ} {R : Matrix} → IsResidue n X A B t R → Stands n h A R (modulus X t)
+pub stands : (n h X : ℕ) → 60 ≤ X → 4 * (n * n) * h ≤ X → (A : Matrix) → Below n (λ i j. natAbs (A i j) ≤ h) → {B : Matrix} {t : ℕ} {R : Matrix} → IsResidue n X A B t R → Stands n h A δ R (modulus X t)
 unfolding modulus
-stands n h X wide enough A low {B} (first p) = record { inverse = B; means = start-means p; bounded = start-bounded n h X wide A low p }
+stands n h X wide enough A low {B} (first p) = record { sum = B; means = start-means p; bounded = start-bounded n h X wide A low p }
 stands n h X wide enough A low (later {t = t} {R = R} {M = M} q p) =
     let r = stands n h X wide enough A low q in
     record {
-      inverse = next n (pos (modulus X t)) (r .inverse) R M;
-      means = step-means p (modulus X t) (r .inverse) (r .means);
+      sum = next n (pos (modulus X t)) (r .sum) R M;
+      means = step-means p (modulus X t) (r .sum) (r .means);
       bounded = step-bounded n h X wide A low enough (r .bounded) p;
     }

@@ -10,8 +10,8 @@ use Rattle.numbers.proofs.Algebra.IntOrder.{natAbs-sub, small-multiple}
 use Rattle.numbers.proofs.Algebra.RingSolver.{#_, ⊝_}
 use Rattle.numbers.proofs.Algebra.Sum.{δ}
 use Rattle.numbers.proofs.Remainders.Congruence.{cong-near}
-use Rattle.tables.specs.Tables.{Matrix, Below, _≈⟨_⟩_, _·⟨_⟩_, _⊟_, _⊙_, CongM}
-use Rattle.tables.proofs.Algebra.Matrix.{𝟘, congM-eq}
+use Rattle.tables.specs.Tables.{Matrix, Below, _≈⟨_⟩_, _·⟨_⟩_, _⊟_, _⊙_, CongM, Zero}
+use Rattle.tables.proofs.Algebra.Matrix.{congM-eq}
 use Rattle.tables.proofs.Algebra.MatrixSolver.{matrix, modular, given_is_by_and_then_, 𝟘ᵉ, 𝟙, _⊟ᵉ_, _·ᵉ_, _⊙ᵉ_, _≑_}
 use Rattle.tables.proofs.Inverses.TwoSided.{two-sided-whole}
 use Rattle.tables.proofs.Inverses.InverseBound.{inverse-bound}
@@ -30,7 +30,7 @@ module _ (n : ℕ) (x : ℤ) (A U F S C R : Matrix) (left : CongM n x (U ·⟨ n
       (modular n x 0 4 (λ U A S C. given U ·ᵉ A is 𝟙 by (⊝ # 1) ⊙ᵉ 𝟙 and S ⊟ᵉ C then given A ·ᵉ S is A ·ᵉ C by U and 𝟙 then S ≑ C) tt U A S C left differ i j a b)
       (omega (arith, natAbs-sub (S i j) (C i j), less i j a b))
 
-  gone : x ⊙ R ≈⟨ n ⟩ 𝟘
+  gone : Zero n (x ⊙ R)
   gone =
       matrix n 1 5 (λ x A F S C R.
       given A ·ᵉ S is F by (⊝ # 1) ⊙ᵉ 𝟙 and 𝟙 then
@@ -38,19 +38,19 @@ module _ (n : ℕ) (x : ℤ) (A U F S C R : Matrix) (left : CongM n x (U ·⟨ n
       given S is C by A and 𝟙 then
       x ⊙ᵉ R ≑ 𝟘ᵉ) tt x A F S C R solves lifted near-same
 
-  pub near-zero : R ≈⟨ n ⟩ 𝟘
+  pub near-zero : Zero n R
   near-zero i j a b = small-multiple x (R i j) (omega (arith, ap natAbs (gone i j a b), less i j a b))
 
-pub inverse-near-zero : (n : ℕ) (A B C R : Matrix) (x : ℤ) → A ·⟨ n ⟩ B ≈⟨ n ⟩ δ → A ·⟨ n ⟩ C ≈⟨ n ⟩ δ ⊟ x ⊙ R → Below n (λ i j. natAbs (B i j) + natAbs (C i j) < natAbs x) → R ≈⟨ n ⟩ 𝟘
+pub inverse-near-zero : (n : ℕ) (A B C R : Matrix) (x : ℤ) → A ·⟨ n ⟩ B ≈⟨ n ⟩ δ → A ·⟨ n ⟩ C ≈⟨ n ⟩ δ ⊟ x ⊙ R → Below n (λ i j. natAbs (B i j) + natAbs (C i j) < natAbs x) → Zero n R
 inverse-near-zero n A B C R x inverse = near-zero n x A B δ B C R (congM-eq n x (two-sided-whole n A B inverse)) inverse
 
--- where the residue is 0, C is an inverse
-pub zero-right : (n : ℕ) (x : ℤ) (A C R : Matrix) → A ·⟨ n ⟩ C ≈⟨ n ⟩ δ ⊟ x ⊙ R → R ≈⟨ n ⟩ 𝟘 → A ·⟨ n ⟩ C ≈⟨ n ⟩ δ
+-- where the residue is 0, C solves A·C = F
+pub zero-right : (n : ℕ) (x : ℤ) (A F C R : Matrix) → A ·⟨ n ⟩ C ≈⟨ n ⟩ F ⊟ x ⊙ R → Zero n R → A ·⟨ n ⟩ C ≈⟨ n ⟩ F
 zero-right n =
-    matrix n 1 3 (λ x A C R. given A ·ᵉ C is 𝟙 ⊟ᵉ x ⊙ᵉ R by 𝟙 and 𝟙 then given R is 𝟘ᵉ by (⊝ x) ⊙ᵉ 𝟙 and 𝟙 then A ·ᵉ C ≑ 𝟙) tt
+    matrix n 1 4 (λ x A F C R. given A ·ᵉ C is F ⊟ᵉ x ⊙ᵉ R by 𝟙 and 𝟙 then given R is 𝟘ᵉ by (⊝ x) ⊙ᵉ 𝟙 and 𝟙 then A ·ᵉ C ≑ F) tt
 
 module _ (n h : ℕ) (A B C R : Matrix) (x : ℤ) (pos-h : 0 < h) (A-le : Below n (λ i j. natAbs (A i j) ≤ h)) (inverse : A ·⟨ n ⟩ B ≈⟨ n ⟩ δ) (lifted : A ·⟨ n ⟩ C ≈⟨ n ⟩ δ ⊟ x ⊙ R) (C-less : Below n (λ i j. natAbs (C i j) + (n * h) ^ (n - 1) < natAbs x)) where
-  pub residue-zero : R ≈⟨ n ⟩ 𝟘
+  pub residue-zero : Zero n R
   residue-zero =
       inverse-near-zero n A B C R x inverse lifted
       (λ i j hi hj. omega (arith, inverse-bound n h A B pos-h A-le inverse i j hi hj, C-less i j hi hj))
