@@ -54,7 +54,7 @@ pub fn block(n: usize, lifts: usize, expansion: &[i64], j: usize) -> &[i64]
 
 // Writes B_0 into block 0 and R_0 into block 1, for a table that has an inverse modulo 2.
 pub fn start(n: usize, e: u32, a: &[i64], buf: &mut [i64])
-    requires { ⌜ ToStart n e (now a) (now buf) ⌝ }
+    requires { ⌜ ToStart n 2 (2 ^ e) (now a) (now buf) ⌝ }
     ensures { λ _. ⌜ Started n (2 ^ e) (entries n (now (a .entry))) (now (buf .entry)) (now (buf .exit)) ⌝ }
 {
     tables::elimination::inverse(n, a, buf, 0);
@@ -63,7 +63,7 @@ pub fn start(n: usize, e: u32, a: &[i64], buf: &mut [i64])
 
 // From an inverse modulo 2^e in block 0: the balanced one, B_0, and its residue R_0 in block 1.
 pub fn base(n: usize, e: u32, a: &[i64], buf: &mut [i64])
-    requires { ⌜ ToBase n e (now a) (now buf) ⌝ }
+    requires { ⌜ ToBase n (2 ^ e) (now a) (now buf) ⌝ }
     ensures { λ _. ⌜ Started n (2 ^ e) (entries n (now (a .entry))) (now (buf .entry)) (now (buf .exit)) ⌝ }
 {
     tables::blocks::identity(n, buf, 1);
@@ -73,7 +73,7 @@ pub fn base(n: usize, e: u32, a: &[i64], buf: &mut [i64])
 
 // From B_0 in block 0 and R_i in block r: M_i in block m and R_{i+1} in block s.
 pub fn step(n: usize, e: u32, a: &[i64], buf: &mut [i64], r: usize, m: usize, s: usize)
-    requires { ⌜ ToStep n e (now a) (now buf) r m s ⌝ }
+    requires { ⌜ ToStep n (2 ^ e) (now a) (now buf) r m s ⌝ }
     ensures { λ _. ⌜ Stepped n (2 ^ e) (entries n (now (a .entry))) (now (buf .entry)) (now (buf .exit)) r m s ⌝ }
 {
     tables::blocks::product(n, buf, r, r, s);
@@ -82,7 +82,7 @@ pub fn step(n: usize, e: u32, a: &[i64], buf: &mut [i64], r: usize, m: usize, s:
 
 // From B_0 in block 0 and a residue in block r: its digit in block d and the next residue in block r.
 pub fn digit(n: usize, e: u32, a: &[i64], buf: &mut [i64], r: usize, d: usize)
-    requires { ⌜ ToDigit n e (now a) (now buf) r d ⌝ }
+    requires { ⌜ ToDigit n (2 ^ e) (now a) (now buf) r d ⌝ }
     ensures { λ _. ⌜ Digited n (2 ^ e) (entries n (now (a .entry))) (now (buf .entry)) (now (buf .exit)) r d ⌝ }
 {
     tables::blocks::remain(n, e, buf, 0, r, d);
@@ -91,8 +91,8 @@ pub fn digit(n: usize, e: u32, a: &[i64], buf: &mut [i64], r: usize, d: usize)
 
 // The same for the first column of that residue alone; nothing is said of the other columns of blocks d and r.
 pub fn column_digit(n: usize, e: u32, a: &[i64], buf: &mut [i64], r: usize, d: usize)
-    requires { ⌜ ToColumnDigit n e (now a) (now buf) r d ⌝ }
-    ensures { λ _. ⌜ ColumnDigited n e (now (a .entry)) (now (buf .entry)) (now (buf .exit)) r d ⌝ }
+    requires { ⌜ ToColumnDigit n (2 ^ e) (now a) (now buf) r d ⌝ }
+    ensures { λ _. ⌜ ColumnDigited n (2 ^ e) (now (a .entry)) (now (buf .entry)) (now (buf .exit)) r d ⌝ }
 {
     tables::columns::remain(n, e, buf, 0, r, d);
     tables::columns::shrink(n, e, a, buf, d, r);

@@ -3,3 +3,4 @@ pub mod Division
 pub mod Remainder
 pub mod Shift
 pub mod Powers
+pub mod Moduli

@@ -4,8 +4,8 @@
 --   ColumnLow n c A             every entry of it has magnitude at most c
 -- What the kernels ask:
 --   ToCopy n L p o              the first column of block p is to be copied into that of block o
---   ToRemain n e L p q o        that of block o is to be the remainder by 2^e of block p times that of block q
---   ToShrink n e A L m s        that of block s, less A times that of block m, is to be divided by 2^e
+--   ToRemain n X L p q o        that of block o is to be the balanced remainder by X of block p times that of block q
+--   ToShrink n X A L m s        that of block s, less A times that of block m, is to be divided by X and rounded down
 use mathlib.Core.Path.{_≡_}
 use mathlib.Core.Logic.{_≢_}
 use mathlib.Core.List.{List}
@@ -13,6 +13,7 @@ use Prim.Native.Nat.{ℕ, _*_, _^_, _≤_, _<_}
 use lib.IntN.{ℤ, pos, natAbs}
 use lib.ListN.{length}
 use Rattle.numbers.specs.Limits.{IsOrder}
+use Rattle.numbers.specs.Moduli.{IsModulus}
 use Rattle.tables.specs.Tables.{Matrix, _≈⟨_⟩_, block, entries}
 use Rattle.tables.specs.Buffer.{Low, Has}
 
@@ -33,10 +34,9 @@ pub record ToCopy (n : ℕ) (L : List ℤ) (p o : ℕ) : Type 0 where
   pub target : Has n L o
   pub apart : p ≢ o
 
-pub record ToRemain (n e : ℕ) (L : List ℤ) (p q o : ℕ) : Type 0 where
+pub record ToRemain (n X : ℕ) (L : List ℤ) (p q o : ℕ) : Type 0 where
   pub order : IsOrder n
-  pub from : 1 ≤ e
-  pub upto : e ≤ 32
+  pub modulus : IsModulus X
   pub left : Has n L p
   pub right : Has n L q
   pub target : Has n L o
@@ -45,9 +45,10 @@ pub record ToRemain (n e : ℕ) (L : List ℤ) (p q o : ℕ) : Type 0 where
   pub low-left : Low n (2 ^ 31) (block n L p)
   pub low-right : ColumnLow n (2 ^ 25) (block n L q)
 
-pub record ToShrink (n e : ℕ) (A L : List ℤ) (m s : ℕ) : Type 0 where
+pub record ToShrink (n X : ℕ) (A L : List ℤ) (m s : ℕ) : Type 0 where
   pub order : IsOrder n
-  pub exponent : e ≤ 32
+  pub from : 1 ≤ X
+  pub upto : X ≤ 2 ^ 32
   pub size : length A ≡ n * n
   pub factor : Has n L m
   pub target : Has n L s

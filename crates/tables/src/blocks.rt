@@ -9,7 +9,8 @@ ghost use Rattle.numbers.specs.Limits.{IsOrder};
 ghost use Rattle.numbers.specs.Remainder.{rem};
 ghost use Rattle.numbers.specs.Says.{Tells};
 ghost use Rattle.tables.specs.Tables.{_·⟨_⟩_, Zero, block, tableAt};
-ghost use Rattle.tables.specs.Buffer.{Low, RowLow, Has, Dot, Product, Remain, Shrink, shrunk, BlockPut, RowPut, Balance, Extend, Copied};
+ghost use Rattle.tables.specs.Buffer.{Low, RowLow, Has, BlockPut, RowPut, Copied};
+ghost use Rattle.tables.specs.Kernels.{Dot, Product, Remain, shrunk, Shrink, Balance, Extend};
 
 // Block o becomes the product of blocks p and q.
 pub fn product(n: usize, buf: &mut [i64], p: usize, q: usize, o: usize)
@@ -42,20 +43,20 @@ fn product_row(n: usize, buf: &mut [i64], p: usize, q: usize, o: usize, i: usize
 
 // Block o becomes the balanced remainder by 2^e of the product of blocks p and q.
 pub fn remain(n: usize, e: u32, buf: &mut [i64], p: usize, q: usize, o: usize)
-    requires { ⌜ Remain n e (now buf) p q o ⌝ }
+    requires { ⌜ Remain n (2 ^ e) (now buf) p q o ⌝ }
     ensures { λ _. ⌜ BlockPut n (λ (i j : ℕ). rem (2 ^ e) ((block n (now (buf .entry)) p ·⟨ n ⟩ block n (now (buf .entry)) q) i j)) o (now (buf .entry)) (now (buf .exit)) ⌝ }
 {
     let mut y = [0u32; 1024];
     let m = n * n;
     super::residues::take(m, buf, q * m, &mut y);
-    super::residues::product(n, &y, buf, p, o);
+    super::block_residues::product(n, &y, buf, p, o);
     balance(n, e, buf, o);
 }
 
 // Block s becomes itself less a times block m, divided by 2^e and rounded down.
 pub fn shrink(n: usize, e: u32, a: &[i64], buf: &mut [i64], m: usize, s: usize)
-    requires { ⌜ Shrink n e (now a) (now buf) m s × Low n (2 ^ 62) (block n (now buf) s) ⌝ }
-    ensures { λ _. ⌜ BlockPut n (shrunk n e (now (a .entry)) (now (buf .entry)) m s) s (now (buf .entry)) (now (buf .exit)) ⌝ }
+    requires { ⌜ Shrink n (2 ^ e) (now a) (now buf) m s × Low n (2 ^ 62) (block n (now buf) s) ⌝ }
+    ensures { λ _. ⌜ BlockPut n (shrunk n (2 ^ e) (now (a .entry)) (now (buf .entry)) m s) s (now (buf .entry)) (now (buf .exit)) ⌝ }
 {
     let mut i: usize = 0;
     while i < n {
@@ -66,8 +67,8 @@ pub fn shrink(n: usize, e: u32, a: &[i64], buf: &mut [i64], m: usize, s: usize)
 
 // Row i of it.
 fn shrink_row(n: usize, e: u32, a: &[i64], buf: &mut [i64], m: usize, s: usize, i: usize)
-    requires { ⌜ Shrink n e (now a) (now buf) m s × ((i < n) × RowLow n (2 ^ 62) (block n (now buf) s) i) ⌝ }
-    ensures { λ _. ⌜ RowPut n (shrunk n e (now (a .entry)) (now (buf .entry)) m s) s i (now (buf .entry)) (now (buf .exit)) ⌝ }
+    requires { ⌜ Shrink n (2 ^ e) (now a) (now buf) m s × ((i < n) × RowLow n (2 ^ 62) (block n (now buf) s) i) ⌝ }
+    ensures { λ _. ⌜ RowPut n (shrunk n (2 ^ e) (now (a .entry)) (now (buf .entry)) m s) s i (now (buf .entry)) (now (buf .exit)) ⌝ }
 {
     let size = n * n;
     let ma = m * size;
@@ -83,7 +84,7 @@ fn shrink_row(n: usize, e: u32, a: &[i64], buf: &mut [i64], m: usize, s: usize, 
 
 // Block o becomes its balanced remainder by 2^e.
 pub fn balance(n: usize, e: u32, buf: &mut [i64], o: usize)
-    requires { ⌜ Balance n e (now buf) o ⌝ }
+    requires { ⌜ Balance n (2 ^ e) (now buf) o ⌝ }
     ensures { λ _. ⌜ BlockPut n (λ (i j : ℕ). rem (2 ^ e) (block n (now (buf .entry)) o i j)) o (now (buf .entry)) (now (buf .exit)) ⌝ }
 {
     let m = n * n;
@@ -98,7 +99,7 @@ pub fn balance(n: usize, e: u32, buf: &mut [i64], o: usize)
 
 // 2^e times block d is added to block c.
 pub fn extend(n: usize, e: u32, buf: &mut [i64], c: usize, d: usize)
-    requires { ⌜ Extend n e (now buf) c d ⌝ }
+    requires { ⌜ Extend n (2 ^ e) (now buf) c d ⌝ }
     ensures { λ _. ⌜ BlockPut n (λ (i j : ℕ). block n (now (buf .entry)) c i j +ℤ pos (2 ^ e) *ℤ block n (now (buf .entry)) d i j) c (now (buf .entry)) (now (buf .exit)) ⌝ }
 {
     let m = n * n;

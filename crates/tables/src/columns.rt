@@ -4,7 +4,8 @@ ghost use Rattle.numbers.specs.Limits.{IsOrder};
 ghost use Rattle.numbers.specs.Remainder.{rem};
 ghost use Rattle.numbers.specs.Says.{Tells};
 ghost use Rattle.tables.specs.Tables.{_·⟨_⟩_, block};
-ghost use Rattle.tables.specs.Buffer.{Has, shrunk};
+ghost use Rattle.tables.specs.Buffer.{Has};
+ghost use Rattle.tables.specs.Kernels.{shrunk};
 ghost use Rattle.tables.specs.Columns.{ToCopy, ToRemain, ToShrink, ColumnPut, ColumnZero};
 
 // The first column of block p, into that of block o.
@@ -24,7 +25,7 @@ pub fn copy(n: usize, buf: &mut [i64], p: usize, o: usize)
 
 // The first column of block o becomes the balanced remainder by 2^e of block p times the first column of block q.
 pub fn remain(n: usize, e: u32, buf: &mut [i64], p: usize, q: usize, o: usize)
-    requires { ⌜ ToRemain n e (now buf) p q o ⌝ }
+    requires { ⌜ ToRemain n (2 ^ e) (now buf) p q o ⌝ }
     ensures { λ _. ⌜ ColumnPut n (λ (i : ℕ). rem (2 ^ e) ((block n (now (buf .entry)) p ·⟨ n ⟩ block n (now (buf .entry)) q) i 0)) o (now (buf .entry)) (now (buf .exit)) ⌝ }
 {
     let m = n * n;
@@ -41,8 +42,8 @@ pub fn remain(n: usize, e: u32, buf: &mut [i64], p: usize, q: usize, o: usize)
 
 // The first column of block s becomes itself less a times that of block m, divided by 2^e and rounded down.
 pub fn shrink(n: usize, e: u32, a: &[i64], buf: &mut [i64], m: usize, s: usize)
-    requires { ⌜ ToShrink n e (now a) (now buf) m s ⌝ }
-    ensures { λ _. ⌜ ColumnPut n (λ (i : ℕ). shrunk n e (now (a .entry)) (now (buf .entry)) m s i 0) s (now (buf .entry)) (now (buf .exit)) ⌝ }
+    requires { ⌜ ToShrink n (2 ^ e) (now a) (now buf) m s ⌝ }
+    ensures { λ _. ⌜ ColumnPut n (λ (i : ℕ). shrunk n (2 ^ e) (now (a .entry)) (now (buf .entry)) m s i 0) s (now (buf .entry)) (now (buf .exit)) ⌝ }
 {
     let size = n * n;
     let ma = m * size;

@@ -4,6 +4,7 @@ ghost use lib.ListN.{length};
 ghost use Rattle.numbers.specs.Says.{Tells};
 ghost use Rattle.tables.specs.Views.{Stretch, HasRow, RowGives};
 
+pub mod block_residues;
 pub mod blocks;
 pub mod checks;
 pub mod columns;

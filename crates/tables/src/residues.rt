@@ -1,11 +1,10 @@
-// Tables of residues modulo 2^32, in 32 bits each, so that the inner loops of products run on several entries at a time.
+// Lists of residues modulo 2^32, in 32 bits each, so that the inner loops of products run on several entries at a time.
 ghost use Prim.Native.Nat.{ℕ, _+_, _*_, _%_, _^_, _≤_, _<_};
 ghost use lib.ListN.{length, getD};
 ghost use lib.IntN.{pos};
 ghost use Rattle.numbers.specs.Remainder.{residue};
-ghost use Rattle.tables.specs.Tables.{block};
-ghost use Rattle.tables.specs.Buffer.{BlockPut, RowPut, Wrote};
-ghost use Rattle.tables.specs.Residues.{Takes, Folds, Products, rowTimes, product32};
+ghost use Rattle.tables.specs.Buffer.{Wrote};
+ghost use Rattle.tables.specs.Residues.{rowTimes, Takes, Folds};
 
 // The residues of m numbers from place p on.
 pub fn take(m: usize, a: &[i64], p: usize, t: &mut [u32])
@@ -19,35 +18,10 @@ pub fn take(m: usize, a: &[i64], p: usize, t: &mut [u32])
     }
 }
 
-// Block o becomes the product of block p and the table of residues y, in residues.
-pub fn product(n: usize, y: &[u32], buf: &mut [i64], p: usize, o: usize)
-    requires { ⌜ Products n (now y) (now buf) p o ⌝ }
-    ensures { λ _. ⌜ BlockPut n (product32 n (block n (now (buf .entry)) p) (now (y .entry))) o (now (buf .entry)) (now (buf .exit)) ⌝ }
-{
-    let mut i: usize = 0;
-    while i < n {
-        product_row(n, y, buf, p, o, i);
-        i += 1;
-    }
-}
-
-// Row i of it.
-fn product_row(n: usize, y: &[u32], buf: &mut [i64], p: usize, o: usize, i: usize)
-    requires { ⌜ Products n (now y) (now buf) p o × (i < n) ⌝ }
-    ensures { λ _. ⌜ RowPut n (product32 n (block n (now (buf .entry)) p) (now (y .entry))) o i (now (buf .entry)) (now (buf .exit)) ⌝ }
-{
-    let m = n * n;
-    let mut x = [0u32; 32];
-    take(n, buf, p * m + i * n, &mut x);
-    let mut z = [0u32; 32];
-    fold_rows(n, &x, y, &mut z);
-    widen(n, &z, buf, o * m + i * n);
-}
-
 // The product of the row x and the table y, in z, which is zero before.
-fn fold_rows(n: usize, x: &[u32], y: &[u32], z: &mut [u32])
+pub fn fold_rows(n: usize, x: &[u32], y: &[u32], z: &mut [u32])
     requires { ⌜ Folds n (now x) (now y) (now z) ⌝ }
-    ensures { λ _. ⌜ Wrote 0 (rowTimes n (now (x .entry)) (now (y .entry)) n) 0 n (now (z .entry)) (now (z .exit)) ⌝ }
+    ensures { λ _. ⌜ Wrote 0 (rowTimes (2 ^ 32) n (now (x .entry)) (now (y .entry)) n) 0 n (now (z .entry)) (now (z .exit)) ⌝ }
 {
     let mut k: usize = 0;
     while k < n {

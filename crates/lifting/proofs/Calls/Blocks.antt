@@ -9,7 +9,8 @@ use lib.ListN.{length}
 use denote.Ref.{RefT, now}
 use Rattle.tables.specs.Views.{Same}
 use Rattle.tables.proofs.Buffers.Places.{next-row, square-small}
-use Rattle.tables.proofs.Checking.Views.{view-unique, both?, iff?, order?}
+use Rattle.tables.proofs.Checking.Views.{view-unique}
+use Rattle.numbers.proofs.Answers.Decisions.{both?, iff?, order?}
 use Rattle.lifting.specs.Views.{HasBlock, BlockGives}
 
 pub size-small : {n s : ℕ} → n ≤ 32 → s ≤ 4 → (n * n ≤ 1024) × ((2 * s + 2) * (n * n) ≤ 10240)

@@ -4,31 +4,30 @@ use mathlib.Core.List.{List}
 use Prim.Native.Nat.{ℕ, _^_, _≤_}
 use native.Mathlib.Omega.{arith}
 use lib.IntN.{ℤ, natAbs, _-ℤ_, _*ℤ_}
-use lib.Pow.{pow-pos, pow-mono}
 use lib.Signed.{shrZ}
 use Rattle.numbers.specs.Remainder.{rem}
 use Rattle.numbers.proofs.Algebra.Sum.{sum-cong}
 use Rattle.numbers.proofs.Remainders.Remainder.{rem-is, balanced-size}
+use Rattle.numbers.proofs.Remainders.Moduli.{suits-modulus}
 use Rattle.tables.specs.Tables.{Matrix, _·⟨_⟩_, block, entries}
-use Rattle.tables.specs.Buffer.{shrunk}
+use Rattle.tables.specs.Kernels.{shrunk}
 use Rattle.tables.specs.Columns.{ColumnPut, ToRemain, ToShrink}
 use Rattle.tables.proofs.Algebra.Matrix.{≈-trans}
 use Rattle.lifting.specs.Steps.{Setting, SameColumn, digitOf, ToColumnDigit, ColumnDigited}
-use Rattle.lifting.proofs.Calls.Sizes.{low-entries}
+use Rattle.lifting.proofs.Calls.Sizes.{low-entries, setting-some}
 
 -- the first column of a product needs that of the second factor alone
 column-· : (n : ℕ) (A P Q : Matrix) → SameColumn n P Q → SameColumn n (A ·⟨ n ⟩ P) (A ·⟨ n ⟩ Q)
 column-· n A P Q e i h = sum-cong n (λ k l. ap (λ z. A i k *ℤ z) (e k l))
 
-module _ {n e : ℕ} {A L : List ℤ} {r d : ℕ} (q : ToColumnDigit n e A L r d) where
-  setting : Setting n e A
+module _ {n X : ℕ} {A L : List ℤ} {r d : ℕ} (q : ToColumnDigit n X A L r d) where
+  setting : Setting n X A
   setting = q .stage .setting
 
-  pub column-1 : ToRemain n e L 0 r d
+  pub column-1 : ToRemain n X L 0 r d
   column-1 = record {
     order = setting .lawful .order;
-    from = setting .from;
-    upto = setting .upto;
+    modulus = suits-modulus (setting .suits);
     left = omega (arith, q .here);
     right = q .here;
     target = q .digit;
@@ -38,14 +37,15 @@ module _ {n e : ℕ} {A L : List ℤ} {r d : ℕ} (q : ToColumnDigit n e A L r d
     low-right = q .low;
   }
 
-  module _ {L₁ : List ℤ} (p₁ : ColumnPut n (λ i. rem (2 ^ e) ((block n L 0 ·⟨ n ⟩ block n L r) i 0)) d L L₁) where
+  module _ {L₁ : List ℤ} (p₁ : ColumnPut n (λ i. rem X ((block n L 0 ·⟨ n ⟩ block n L r) i 0)) d L L₁) where
     r₁ : SameColumn n (block n L₁ r) (block n L r)
     r₁ i h = p₁ .rest r (q .r-d) i 0 h (setting .lawful .order .from)
 
-    pub column-2 : ToShrink n e A L₁ d r
+    pub column-2 : ToShrink n X A L₁ d r
     column-2 = record {
       order = setting .lawful .order;
-      exponent = setting .upto;
+      from = setting-some setting;
+      upto = setting .suits .upto;
       size = setting .lawful .size;
       factor = omega (arith, q .digit, p₁ .long);
       target = omega (arith, q .here, p₁ .long);
@@ -55,18 +55,18 @@ module _ {n e : ℕ} {A L : List ℤ} {r d : ℕ} (q : ToColumnDigit n e A L r d
       room = λ i h. rw (r₁ i h) (let l = q .low i h in omega arith);
     }
       where
-        small : (z : ℤ) → natAbs (rem (2 ^ e) z) ≤ 2 ^ 31
-        small z = omega (arith, balanced-size (rem (2 ^ e) z) (rem-is (2 ^ e) (pow-pos e) z .balanced), pow-mono {i = e} {j = 32} (setting .upto))
+        small : (z : ℤ) → natAbs (rem X z) ≤ 2 ^ 31
+        small z = omega (arith, balanced-size (rem X z) (rem-is X (setting-some setting) z .balanced), setting .suits .upto)
 
     -- the digit of any table with that column
-    d₁ : (R : Matrix) → SameColumn n (block n L r) R → SameColumn n (block n L₁ d) (digitOf n (2 ^ e) (block n L 0) R)
-    d₁ R same k l = p₁ .there k l ∙ ap (rem (2 ^ e)) (column-· n (block n L 0) (block n L r) R same k l)
+    d₁ : (R : Matrix) → SameColumn n (block n L r) R → SameColumn n (block n L₁ d) (digitOf n X (block n L 0) R)
+    d₁ R same k l = p₁ .there k l ∙ ap (rem X) (column-· n (block n L 0) (block n L r) R same k l)
 
-    pub column-done : {L₂ : List ℤ} → ColumnPut n (λ i. shrunk n e A L₁ d r i 0) r L₁ L₂ → ColumnDigited n e A L L₂ r d
+    pub column-done : {L₂ : List ℤ} → ColumnPut n (λ i. shrunk n X A L₁ d r i 0) r L₁ L₂ → ColumnDigited n X A L L₂ r d
     column-done p₂ = record {
       long = p₂ .long ∙ p₁ .long;
       digit = λ R same i h. p₂ .rest d (λ z. q .r-d (sym z)) i 0 h (setting .lawful .order .from) ∙ d₁ R same i h;
       step = λ R same i h. p₂ .there i h
-          ∙ ap₂ (λ x y. shrZ (x -ℤ y) (2 ^ e)) (r₁ i h ∙ same i h) (column-· n (entries n A) (block n L₁ d) (digitOf n (2 ^ e) (block n L 0) R) (d₁ R same) i h);
+          ∙ ap₂ (λ x y. shrZ (x -ℤ y) X) (r₁ i h ∙ same i h) (column-· n (entries n A) (block n L₁ d) (digitOf n X (block n L 0) R) (d₁ R same) i h);
       rest = λ b bd br. ≈-trans (p₂ .rest b br) (p₁ .rest b bd);
     }

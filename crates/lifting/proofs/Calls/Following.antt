@@ -7,7 +7,6 @@ use native.Mathlib.Numerals.{add-one}
 use native.Mathlib.Omega.{arith}
 use lib.IntN.{ℤ, natAbs}
 use lib.ListN.{length}
-use Rattle.numbers.specs.Moduli.{Exponent}
 use Rattle.tables.specs.Tables.{Matrix, Below, _≈⟨_⟩_, block, entries, height}
 use Rattle.tables.specs.Buffer.{Low, Has}
 use Rattle.tables.specs.Columns.{ColumnLow}
@@ -16,8 +15,8 @@ use Rattle.lifting.specs.Linear.{IsLinear}
 use Rattle.lifting.specs.Steps.{Stage, SameColumn, nextResidue, ToColumnDigit, ColumnDigited}
 use Rattle.lifting.proofs.Expansions.Stands.{Stands}
 use Rattle.lifting.proofs.Expansions.Linear.{linear-more, linear-resp}
-use Rattle.lifting.proofs.Calls.Holding.{setting-some, used-stands}
-use Rattle.lifting.proofs.Calls.Sizes.{stands-low}
+use Rattle.lifting.proofs.Calls.Holding.{used-stands}
+use Rattle.lifting.proofs.Calls.Sizes.{setting-some, stands-low}
 use Rattle.lifting.proofs.Calls.Stepping.{stage-resp}
 
 -- after X was used m times, from the buffer K; B_0 and block 1 are kept

@@ -9,10 +9,10 @@ use lib.IntN.{ℤ, pos, natAbs}
 use Rattle.numbers.specs.Limits.{Lawful}
 use Rattle.numbers.specs.Numbers.{Enough}
 use Rattle.numbers.proofs.Algebra.Sum.{δ}
-use Rattle.numbers.proofs.Remainders.Powers.{modulus-of}
+use Rattle.numbers.proofs.Remainders.Moduli.{suits-of}
 use Rattle.tables.specs.Tables.{Matrix, Below, _≈⟨_⟩_, block, entries, height}
 use Rattle.tables.specs.Buffer.{Low}
-use Rattle.tables.proofs.Buffers.Kernels.{low-≈}
+use Rattle.tables.proofs.Buffers.Bounds.{low-≈}
 use Rattle.tables.proofs.Buffers.Places.{square-small}
 use Rattle.tables.proofs.Checking.Heights.{entries-low, legal-height}
 use Rattle.tables.proofs.Algebra.Matrix.{≈-refl, ≈-sym, ≈-trans, ·-cong, congM-eq, congM-trans}
@@ -36,17 +36,14 @@ enough-32 {n} {A} law = record {
 }
 
 pub setting : {n e : ℕ} {A : List ℤ} → Lawful n A → Enough n (height A) e → e ≤ 32 → Setting n (2 ^ e) A
-setting law enough upto = record { lawful = law; modulus = modulus-of enough upto }
+setting law enough upto = record { lawful = law; suits = suits-of enough upto }
 
 module _ {n X : ℕ} {A : List ℤ} (g : Setting n X A) where
   pub setting-wide : 60 ≤ X
-  setting-wide = omega (arith, g .modulus .from)
-
-  pub setting-some : 0 < X
-  setting-some = omega (arith, g .modulus .from)
+  setting-wide = omega (arith, g .suits .from)
 
   pub residue-stands : {B : Matrix} {t : ℕ} {R : Matrix} → IsResidue n X (entries n A) B t R → Stands n (height A) (entries n A) δ R (modulus X t)
-  residue-stands = stands n (height A) X setting-wide (g .modulus .reaches) (entries n A) (entries-low n A)
+  residue-stands = stands n (height A) X setting-wide (g .suits .reaches) (entries n A) (entries-low n A)
 
   pub used-stands : {B F : Matrix} {m : ℕ} {R : Matrix} → Below n (λ i j. 10 * natAbs (F i j) ≤ X) → 1 ≤ m → IsLinear n X (entries n A) B F m R → Stands n (height A) (entries n A) F R (X ^ m)
   used-stands small = linear-stands n (height A) X setting-wide (entries n A) (entries-low n A) small
@@ -71,7 +68,7 @@ holds-stage {n} {X} {A} g p =
     record {
       setting = g;
       right = congM-trans n (pos X) (congM-eq n (pos X) (·-cong n (≈-refl n (entries n A)) (p .there))) (start-right s);
-      small = low-≈ (≈-sym (p .there)) (low-balanced (g .modulus .upto) (s .balanced));
+      small = low-≈ (≈-sym (p .there)) (low-balanced (g .suits .upto) (s .balanced));
     }
 
 pub holds-low : {n X : ℕ} {A L : List ℤ} {t r : ℕ} → Setting n X A → Holds n X A L t r → Low n (2 ^ 25) (block n L r)

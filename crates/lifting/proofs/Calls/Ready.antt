@@ -11,7 +11,7 @@ use Rattle.tables.specs.Tables.{Matrix, _≈⟨_⟩_, entries, block, HasInvers
 use Rattle.tables.specs.Buffer.{Has}
 use Rattle.tables.proofs.Algebra.Matrix.{≈-refl, ≈-sym}
 use Rattle.lifting.specs.Lifting.{Upto, LiftGives}
-use Rattle.lifting.specs.Steps.{Ready, ToStart, ToStep, Stepped}
+use Rattle.lifting.specs.Steps.{Setting, Ready, ToStart, ToStep, Stepped}
 use Rattle.lifting.proofs.Expansions.Rules.{step-resp}
 use Rattle.lifting.proofs.Expansions.Upto.{upto-more, upto-resp}
 use Rattle.lifting.proofs.Calls.Refusals.{lift-done}
@@ -28,17 +28,20 @@ module _ {n s e : ℕ} {A L : List ℤ} (r : Ready n s e A (length L)) where
 -- ---- a step in the caller's buffer
 
 module _ {n s e : ℕ} {A : List ℤ} {size : ℕ} (r : Ready n s e A size) where
+  in-setting : Setting n (2 ^ e) A
+  in-setting = setting (r .lawful) (r .enough) (r .top)
+
   has : (L : List ℤ) → length L ≡ size → (b : ℕ) → b + 1 ≤ 2 * s + 2 → Has n L b
   has L z b h = omega (arith, mul-le-mul-right (n * n) h, r .room)
 
-  pub start-asks : {L : List ℤ} → length L ≡ size → HasInverseMod n 2 (entries n A) → ToStart n e A L
-  start-asks {L} z odd = record { setting = setting (r .lawful) (r .enough) (r .top); work = has L z 1 (omega arith); odd = odd }
+  pub start-asks : {L : List ℤ} → length L ≡ size → HasInverseMod n 2 (entries n A) → ToStart n 2 (2 ^ e) A L
+  start-asks {L} z odd = record { setting = in-setting; work = has L z 1 (omega arith); invertible = odd }
 
-  pub step-asks : {L : List ℤ} (t : ℕ) → t < s → length L ≡ size → Upto n (2 ^ e) t (entries n A) L → ToStep n e A L (2 * t + 1) (2 * t + 2) (2 * t + 3)
+  pub step-asks : {L : List ℤ} (t : ℕ) → t < s → length L ≡ size → Upto n (2 ^ e) t (entries n A) L → ToStep n (2 ^ e) A L (2 * t + 1) (2 * t + 2) (2 * t + 3)
   step-asks {L} t l z p = record {
-    stage = holds-stage (r .lawful) (r .enough) (r .top) (holds-upto p);
+    stage = holds-stage in-setting (holds-upto p);
     here = has L z (2 * t + 1) (omega arith);
-    low = holds-low (r .lawful) (r .enough) (holds-upto p);
+    low = holds-low in-setting (holds-upto p);
     digit = has L z (2 * t + 2) (omega arith);
     next = has L z (2 * t + 3) (omega arith);
     r-m = λ y. omega arith;

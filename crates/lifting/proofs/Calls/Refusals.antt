@@ -10,11 +10,11 @@ use native.Mathlib.Omega.{arith}
 use lib.IntN.{ℤ}
 use lib.ListN.{length}
 use Rattle.numbers.specs.Limits.{IsOrder, Legal}
-use Rattle.numbers.specs.Refusals.{done, _when_then_, Gives, Lowest}
-use Rattle.numbers.proofs.Answers.Refusals.{gives-lowest, learnt}
+use Rattle.numbers.specs.Refusals.{Refusals, done, _when_then_, Gives, Lowest}
+use Rattle.numbers.proofs.Answers.Refusals.{Passes, passes-on, refused-stays, gives-lowest, learnt}
 use Rattle.numbers.proofs.Counting.Search.{need, need-is}
 use Rattle.tables.specs.Tables.{height, entries, HasInverseMod}
-use Rattle.lifting.specs.Lifting.{IsExpansion, BelowNeed, liftRefusals, LiftGives}
+use Rattle.lifting.specs.Lifting.{IsExpansion, BelowNeed, inputRefusals, liftRefusals, LiftGives}
 use Rattle.numbers.specs.Numbers.{Enough, IsNeed}
 use Rattle.lifting.specs.Steps.{Ready, Early}
 use Rattle.lifting.proofs.Expansions.Powers.{expansion-base}
@@ -22,6 +22,10 @@ use Rattle.lifting.proofs.Expansions.Powers.{expansion-base}
 -- document 01: the lowest number that applies is given
 pub lift-lowest : {n s e : ℕ} {A L : List ℤ} {k : ℕ} {E : List ℤ} → LiftGives n s e A L k E → Lowest (liftRefusals n s e A L) k
 lift-lowest {n} {s} {e} {A} {L} p = gives-lowest 0 (liftRefusals n s e A L) (omega arith) (p .number)
+
+-- what lift may refuse after its input
+abbrev last : ℕ → List ℤ → Refusals
+last n A = 6 when ¬ HasInverseMod n 2 (entries n A) then done
 
 -- ---- from the checks
 
@@ -43,8 +47,8 @@ pub record Sized (n s : ℕ) (A : List ℤ) (size : ℕ) : Type 0 where
   pub room : size ≡ (2 * s + 2) * (n * n)
 
 module _ {n s e : ℕ} {A : List ℤ} {size : ℕ} where
-  refuse : (k : ℕ) → k ≢ 0 → ((L : List ℤ) → length L ≡ size → Gives (liftRefusals n s e A L) k) → Early n s e A size k
-  refuse k z g = record { ready = λ e. absurd (z e); refused = λ f L q. record { number = g L q; kept = λ h. refl; written = λ e. absurd (z e) } }
+  refuse : (k : ℕ) → k ≢ 0 → ((L : List ℤ) → length L ≡ size → Gives (inputRefusals n s e A L) k) → Early n s e A size k
+  refuse k z g = record { ready = λ e. absurd (z e); refused = λ f. g }
 
   pub early-1 : ¬ IsOrder n → Early n s e A size 1
   early-1 f = refuse 1 (λ z. omega arith) (λ L q. inl (f, refl))
@@ -77,12 +81,15 @@ module _ {n s e : ℕ} {A : List ℤ} {size : ℕ} where
       refused = λ z. absurd (z refl);
     }
 
+  pub early-refused : {L : List ℤ} {k : ℕ} → Early n s e A size k → k ≢ 0 → length L ≡ size → LiftGives n s e A L k L
+  early-refused {L} p f q = record { number = refused-stays (inputRefusals n s e A L) (last n A) f (p .refused f L q); kept = λ h. refl; written = λ z. absurd (f z) }
+
 -- ---- from the lifting
 
 -- no number from 1 to 5 applies
-passed : (n s e : ℕ) (A L : List ℤ) {k : ℕ} → Ready n s e A (length L) → Gives (6 when ¬ HasInverseMod n 2 (entries n A) then done) k → Gives (liftRefusals n s e A L) k
-passed n s e A L r g =
-    inr (λ f. f (r .lawful .order), inr (few (r .lifts), inr (fit (r .lawful .size) (r .room), inr (λ f. f (r .lawful .legal), inr (⊎-elim below high, g)))))
+pub ready-passes : {n s e : ℕ} {A : List ℤ} (L : List ℤ) → Ready n s e A (length L) → Passes (inputRefusals n s e A L)
+ready-passes {n} {s} {e} {A} L r =
+    (λ f. f (r .lawful .order), (few (r .lifts), (fit (r .lawful .size) (r .room), (λ f. f (r .lawful .legal), (⊎-elim below high, tt)))))
   where
     below : ¬ BelowNeed n (height A) e
     below f = let h = f .is-need .least e (r .enough) in let g = f .below in omega arith
@@ -92,21 +99,24 @@ passed n s e A L r g =
 
 module _ {n s e : ℕ} {A L : List ℤ} (r : Ready n s e A (length L)) where
   pub lift-even : ¬ HasInverseMod n 2 (entries n A) → LiftGives n s e A L 6 L
-  lift-even f = record { number = passed n s e A L r (inl (f, refl)); kept = λ z. refl; written = λ z. absurd (omega arith) }
+  lift-even f = record { number = passes-on (inputRefusals n s e A L) (last n A) 6 (ready-passes L r) (inl (f, refl)); kept = λ z. refl; written = λ z. absurd (omega arith) }
 
   pub lift-done : (E : List ℤ) → IsExpansion n (2 ^ e) s (entries n A) E → LiftGives n s e A L 0 E
   lift-done E x = record {
-    number = passed n s e A L r (inr (λ f. f (expansion-base 2 (let h = r .enough .from in omega arith) x), refl));
+    number = passes-on (inputRefusals n s e A L) (last n A) 0 (ready-passes L r) (inr (λ f. f (expansion-base 2 (let h = r .enough .from in omega arith) x), refl));
     kept = λ f. absurd (f refl);
     written = λ z. x;
   }
 
+-- an exponent that is not refused is enough
+pub enough-of : {n h e : ℕ} → ¬ (BelowNeed n h e ⊎ (32 < e)) → Enough n h e
+enough-of {n} {h} {e} f =
+    let k = need-is n h in
+    elim (decLe (need n h) e) [
+      | yes l ↦ enough-more (k .holds) l
+      | no g ↦ absurd (f (inl (record { need = need n h; is-need = k; below = omega arith })))
+    ]
+
 -- after 0 the exponent was enough
 pub lift-enough : {n s e : ℕ} {A L E : List ℤ} → LiftGives n s e A L 0 E → Enough n (height A) e
-lift-enough {n} {s} {e} {A} {L} p =
-    let k = need-is n (height A) in
-    let f = learnt 0 (liftRefusals n s e A L) 0 (omega arith) (p .number) .1 .1 .1 .1 .0 in
-    elim (decLe (need n (height A)) e) [
-      | yes l ↦ enough-more (k .holds) l
-      | no g ↦ absurd (f (inl (record { need = need n (height A); is-need = k; below = omega arith })))
-    ]
+lift-enough {n} {s} {e} {A} {L} p = enough-of (learnt (liftRefusals n s e A L) 0 tt (p .number) .1 .1 .1 .1 .0)

@@ -9,11 +9,15 @@ use Rattle.numbers.specs.Limits.{IsOrder, Lawful}
 use Rattle.numbers.specs.Numbers.{Balanced}
 use Rattle.numbers.proofs.Remainders.Remainder.{rem-is, balanced-size}
 use Rattle.tables.specs.Tables.{Matrix, Below, _·⟨_⟩_, block, entries, height}
-use Rattle.tables.specs.Buffer.{Low, Has, Product}
+use Rattle.tables.specs.Buffer.{Low, Has}
+use Rattle.tables.specs.Kernels.{Product}
 use Rattle.tables.proofs.Checking.Heights.{height-at, legal-height}
-use Rattle.lifting.specs.Steps.{rems}
+use Rattle.lifting.specs.Steps.{Setting, rems}
 use Rattle.lifting.proofs.Expansions.Stands.{Stands}
 use Rattle.tables.proofs.Algebra.Matrix.{·-bound}
+
+pub setting-some : {n X : ℕ} {A : List ℤ} → Setting n X A → 0 < X
+setting-some g = omega (arith, g .suits .from)
 
 pub low-more : {n c d : ℕ} {A : Matrix} → c ≤ d → Low n c A → Low n d A
 low-more h l = record { low = λ i j a b. le-trans (l .low i j a b) h }

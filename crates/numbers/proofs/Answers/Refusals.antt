@@ -54,7 +54,7 @@ refused-stays done ss z g = absurd (z g)
 refused-stays (j when P then rs) ss z (inl p) = inl p
 refused-stays (j when P then rs) ss z (inr p) = inr (p .0, refused-stays rs ss z (p .1))
 
-pub fresh : ℕ → Refusals → Bool
+abbrev pub fresh : ℕ → Refusals → Bool
 fresh k done = true
 fresh k (j when P then rs) = not (eqb j k) && fresh k rs
 
@@ -63,7 +63,6 @@ other j k t e = T-not (eqb j k) t (subst (λ (i : ℕ). T (eqb j i)) e (eqb-refl
 
 -- a number that is not of the first list comes from the second
 pub from-second : (rs ss : Refusals) (k : ℕ) → T (fresh k rs) → Gives (rs thereafter ss) k → Passes rs × Gives ss k
-unfolding fresh
 from-second done ss k t g = (tt, g)
 from-second (j when P then rs) ss k t (inl p) = absurd (other j k (both (not (eqb j k)) (fresh k rs) t .0) (sym (p .1)))
 from-second (j when P then rs) ss k t (inr p) =
@@ -72,7 +71,7 @@ from-second (j when P then rs) ss k t (inr p) =
 
 -- ---- what a number tells
 
-pub apart : Refusals → Bool
+abbrev pub apart : Refusals → Bool
 apart done = true
 apart (j when P then rs) = not (eqb j 0) && (fresh j rs && apart rs)
 
@@ -94,13 +93,11 @@ later P Q false f n q = (n, q)
 
 -- a list gives none but its numbers and 0
 given-other : (j : ℕ) (rs : Refusals) {k : ℕ} → j ≢ 0 → T (fresh j rs) → Gives rs k → j ≢ k
-unfolding fresh
 given-other j done z t g e = z (e ∙ g)
 given-other j (i when P then rs) z t (inl p) e = other i j (both (not (eqb i j)) (fresh j rs) t .0) (sym (e ∙ p .1))
 given-other j (i when P then rs) z t (inr p) e = given-other j rs z (both (not (eqb i j)) (fresh j rs) t .1) (p .1) e
 
 pub learnt : (rs : Refusals) (k : ℕ) → T (apart rs) → Gives rs k → Learnt rs k
-unfolding apart
 learnt done k t g = tt
 learnt (j when P then rs) k t (inl p) = this P (Learnt rs k) (eqb j k) (subst (λ (i : ℕ). T (eqb j i)) (sym (p .1)) (eqb-refl j)) (p .0)
 learnt (j when P then rs) k t (inr p) =

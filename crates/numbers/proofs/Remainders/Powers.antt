@@ -1,13 +1,11 @@
--- Powers: one divides every greater one, and what a power of two is good for as a modulus.
+-- Powers: one divides every greater one.
 use mathlib.Core.Path.{_≡_, ap, _∙_}
 use Prim.Native.Nat.{ℕ, _+_, _-_, _*_, _^_, _≤_}
 use native.Mathlib.Nat.{pow-suc, pow-zero, one-mul}
 use native.Mathlib.Numerals.{add-one}
 use native.Mathlib.Omega.{arith}
 use lib.IntN.{pos, _-ℤ_}
-use lib.Pow.{pow-add, pow-mono}
-use Rattle.numbers.specs.Numbers.{Enough}
-use Rattle.numbers.specs.Moduli.{Exponent, IsModulus}
+use lib.Pow.{pow-add}
 use Rattle.numbers.proofs.Algebra.RingSolver.{ring, #_, _⊖_, _⊗_, _≐_}
 use Rattle.numbers.proofs.Remainders.Congruence.{Cong}
 
@@ -25,11 +23,3 @@ power-divides b {e} {j} h = record {
   where
     split : b ^ j ≡ b ^ e * b ^ (j - e)
     split = let q : j ≡ e + (j - e) = omega arith in ap (λ (m : ℕ). b ^ m) q ∙ pow-add b e (j - e)
-
--- ---- an exponent that is enough
-
-pub exponent-of : {n h e : ℕ} → Enough n h e → e ≤ 32 → Exponent e
-exponent-of k l = record { from = omega (arith, k .from); upto = l }
-
-pub modulus-of : {n h e : ℕ} → Enough n h e → e ≤ 32 → IsModulus n h (2 ^ e)
-modulus-of {e = e} k l = record { from = pow-mono {i = 14} {j = e} (k .from); reaches = k .reaches; upto = pow-mono {i = e} {j = 32} l }

@@ -21,7 +21,7 @@ use Rattle.tables.specs.Residues.{residues, Takes}
 use Rattle.tables.proofs.Algebra.Matrix.{congM-eq, congM-refl, congM-trans, congM-·, ≈-sym}
 use Rattle.tables.proofs.Buffers.Wrote.{wrote-is}
 use Rattle.tables.proofs.Buffers.Places.{square-small, put-of}
-use Rattle.tables.proofs.Buffers.Kernels.{low-≈}
+use Rattle.tables.proofs.Buffers.Bounds.{low-≈}
 use Rattle.tables.proofs.Buffers.Residues.{taken}
 use Rattle.tables.proofs.Checking.Heights.{legal-at}
 use Rattle.tables.proofs.Reduction.Units.{X}
@@ -90,7 +90,7 @@ load-asks {n} {a} l h = record {
 }
 
 pub loaded : {n : ℕ} (a : List ℤ) {p p′ : List ℕ} → Wrote 0 (λ q. residue (2 ^ 32) (getD a (0 + q) (pos 0))) 0 (n * n) p p′ → CongM n X (residues n p′ ᵀ) (entries n a ᵀ)
-loaded {n} a w i j hi hj = cong-trans (taken a 0 w j i hj hi) (cong-of-eq X (ap (λ (k : ℕ). getD a k (pos 0)) (zero-add (j * n + i))))
+loaded {n} a w i j hi hj = cong-trans (taken a 0 (omega arith) w j i hj hi) (cong-of-eq X (ap (λ (k : ℕ). getD a k (pos 0)) (zero-add (j * n + i))))
 
 -- ---- the solution
 

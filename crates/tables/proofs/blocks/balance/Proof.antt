@@ -9,7 +9,9 @@ use Rattle.tables.proofs.Buffers.Wrote.{wrote-none, wrote-more}
 use lib.Pow.{pow-pos}
 use Rattle.numbers.specs.Remainder.{rem}
 use Rattle.tables.proofs.Buffers.Places.{square-small, flat, put-of}
-use Rattle.tables.proofs.Buffers.Kernels.{low-flat, balance-gives}
+use Rattle.tables.proofs.Buffers.Bounds.{low-flat}
+use Rattle.numbers.proofs.Remainders.Moduli.{exponent-of}
+use Rattle.tables.proofs.Kernels.Blocks.{balance-gives}
 use Rattle.tables.proofs.blocks.balance.Statement.{statement}
 use Rattle.tables.proofs.blocks.balance.Tie as tie
 
@@ -42,7 +44,7 @@ rem-pow-requires c κs =
     let l = c .before .before in
     let s = l .before in
     simp (rd-ok _ (c .rem-pow-arg .given) ∙ l .loop .inv .1 .after _ (omega arith))
-    ((s .pre .from, s .pre .upto), omega (arith, low-flat (s .args .buf .now) (s .args .o) (s .pre .order) (s .pre .room) (l .loop .t) (c .before .loop-test .taken)))
+    (exponent-of (s .pre .modulus), omega (arith, low-flat (s .args .buf .now) (s .args .o) (s .pre .order) (s .pre .room) (l .loop .t) (c .before .loop-test .taken)))
 
 add-v : tie.Need-add-v Inv-loop μ-loop
 add-v c = omega arith

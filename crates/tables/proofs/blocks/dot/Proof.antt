@@ -7,7 +7,7 @@ use mir.Val.{toZ}
 use Rattle.numbers.proofs.Algebra.Sum.{sum}
 use Rattle.numbers.proofs.Machine.{rd-ok, rd-got}
 use Rattle.tables.specs.Tables.{tableAt}
-use Rattle.tables.proofs.Buffers.Kernels.{dot-room, dot-more}
+use Rattle.tables.proofs.Kernels.Blocks.{dot-room, dot-more}
 use Rattle.tables.proofs.blocks.dot.Statement.{statement}
 use Rattle.tables.proofs.blocks.dot.Tie as tie
 

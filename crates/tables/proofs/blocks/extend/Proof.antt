@@ -8,7 +8,8 @@ use Rattle.tables.specs.Tables.{block}
 use Rattle.tables.specs.Buffer.{Wrote}
 use Rattle.tables.proofs.Buffers.Wrote.{wrote-none, wrote-more}
 use Rattle.tables.proofs.Buffers.Places.{square-small, flat, put-of, kept-at}
-use Rattle.tables.proofs.Buffers.Kernels.{extend-gives, extend-room}
+use Rattle.numbers.proofs.Remainders.Moduli.{exponent-below}
+use Rattle.tables.proofs.Kernels.Blocks.{extend-gives, extend-room}
 use Rattle.tables.proofs.blocks.extend.Statement.{statement}
 use Rattle.tables.proofs.blocks.extend.Tie as tie
 
@@ -22,7 +23,7 @@ mul-m : tie.Need-mul-m Inv-loop μ-loop
 mul-m c = omega (arith, square-small (c .pre .order .upto))
 
 pow2-requires : tie.Need-pow2-requires Inv-loop μ-loop
-pow2-requires c κs = omega arith
+pow2-requires c κs = exponent-below _ 63 (c .pre .fits)
 
 loop-holds : tie.Need-loop-holds Inv-loop μ-loop
 loop-holds c = (omega arith, wrote-none _ _ _)
@@ -51,7 +52,7 @@ loop-again c =
     let g = l .before .before .args in (
       omega arith,
       wrote-more _ _ _ _ _ _ (omega arith)
-          (rd-ok (c .mac .result) (c .mac .ok) ∙ (simp (first (c .before), second (c .before), power (l .before)) at (c .mac .ensures)) ∙ extend-gives (g .e) (g .n) (g .buf .now) (g .c) (g .d) (l .loop .t)) (l .loop .inv .1),
+          (rd-ok (c .mac .result) (c .mac .ok) ∙ (simp (first (c .before), second (c .before), power (l .before)) at (c .mac .ensures)) ∙ extend-gives (2 ^ (g .e)) (g .n) (g .buf .now) (g .c) (g .d) (l .loop .t)) (l .loop .inv .1),
     )
 
 same-length : tie.Need-same-length Inv-loop μ-loop

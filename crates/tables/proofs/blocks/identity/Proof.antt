@@ -1,5 +1,5 @@
 use Rattle.numbers.proofs.Algebra.Sum.{δ}
-use Rattle.tables.proofs.Buffers.Places.{Rows, rows-none, rows-more, rows-put}
+use Rattle.tables.proofs.Kernels.Rows.{Rows, rows-none, rows-more, rows-put}
 use native.Mathlib.Omega.{arith}
 use Prim.Native.Nat.{_-_}
 use mathlib.Core.Path.{refl}

@@ -1,6 +1,6 @@
 use Rattle.tables.specs.Tables.{_·⟨_⟩_, block}
-use Rattle.tables.proofs.Buffers.Places.{Rows, rows-none, rows-more, rows-put, rows-rest}
-use Rattle.tables.proofs.Buffers.Kernels.{product-kept, product-same}
+use Rattle.tables.proofs.Kernels.Rows.{Rows, rows-none, rows-more, rows-put, rows-rest}
+use Rattle.tables.proofs.Kernels.Blocks.{product-kept, product-same}
 use native.Mathlib.Omega.{arith}
 use Prim.Native.Nat.{_-_}
 use Rattle.tables.proofs.blocks.product.Statement.{statement}

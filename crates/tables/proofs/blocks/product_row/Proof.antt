@@ -3,8 +3,9 @@ use Rattle.tables.proofs.Buffers.Wrote.{wrote-none, wrote-more}
 use lib.IntN.{pos}
 use Rattle.numbers.proofs.Machine.{rd-got}
 use Rattle.tables.specs.Tables.{_·⟨_⟩_, block}
-use Rattle.tables.proofs.Buffers.Places.{square-small, row-end, row-rest}
-use Rattle.tables.proofs.Buffers.Kernels.{product-dot, product-kept, product-same}
+use Rattle.tables.proofs.Buffers.Places.{square-small, row-end}
+use Rattle.tables.proofs.Kernels.Rows.{row-rest}
+use Rattle.tables.proofs.Kernels.Blocks.{product-dot, product-kept, product-same}
 use native.Mathlib.Omega.{arith}
 use Prim.Native.Nat.{_+_, _*_, _-_, _≤_}
 use mathlib.Core.Path.{_≡_, _∙_}

@@ -1,7 +1,10 @@
 use borrow.Author.Needs.{needs}
 use Rattle.tables.proofs.Buffers.Places.{square-small}
-use Rattle.tables.proofs.Buffers.Remaining.{remain-1, remain-2, remain-3, remain-done}
+use Rattle.numbers.proofs.Remainders.Powers.{power-divides}
+use Rattle.numbers.proofs.Remainders.Moduli.{exponent-of}
+use Rattle.tables.proofs.Kernels.Remaining.{remain-1, remain-2, remain-3, remain-done}
 use native.Mathlib.Omega.{arith}
+use Prim.Native.Nat.{_^_}
 use Rattle.tables.proofs.blocks.remain.Statement.{statement}
 use Rattle.tables.proofs.blocks.remain.Tie as tie
 
@@ -21,16 +24,18 @@ slice-aggregate-product : tie.Need-slice-aggregate-product
 slice-aggregate-product c = omega arith
 
 product-requires : tie.Need-product-requires
-product-requires c κs = remain-2 (c .before .before .before .before .before .before .pre) (c .before .before .before .take .ensures)
+product-requires c κs = remain-2 (c .before .before .before .before .before .before .pre) (2 ^ 32) (c .before .before .before .take .ensures)
 
 balance-requires : tie.Need-balance-requires
-balance-requires c κs = remain-3 (c .before .before .before .before .before .before .before .before .before .pre) (c .before .before .before .before .before .before .take .ensures) (c .before .before .product .ensures)
+balance-requires c κs = remain-3 (c .before .before .before .before .before .before .before .before .before .pre) (2 ^ 32) (c .before .before .before .before .before .before .take .ensures) (omega arith) (c .before .before .product .ensures) (omega arith)
 
 same-length : tie.Need-same-length
 same-length c = search needs
 
 returns : tie.Need-returns
-returns c = remain-done (c .before .before .before .before .before .before .before .before .before .before .before .pre) (c .before .before .before .before .before .before .before .before .take .ensures) (c .before .before .before .before .product .ensures) (c .before .balance .ensures)
+returns c =
+    let r = c .before .before .before .before .before .before .before .before .before .before .before .pre in
+    remain-done r (2 ^ 32) (c .before .before .before .before .before .before .before .before .take .ensures) (omega arith) (c .before .before .before .before .product .ensures) (power-divides 2 (exponent-of (r .modulus) .1)) (c .before .balance .ensures)
 
 pub remain-spec : {M : Type 1} → statement M
 remain-spec =

@@ -1,13 +1,13 @@
-use Rattle.tables.specs.Buffer.{shrunk}
-use Rattle.tables.proofs.Buffers.Places.{Rows, rows-none, rows-more, rows-put, rows-rest, rows-left}
-use Rattle.tables.proofs.Buffers.Kernels.{shrink-kept, shrink-same}
+use Rattle.tables.specs.Kernels.{shrunk}
+use Rattle.tables.proofs.Kernels.Rows.{Rows, rows-none, rows-more, rows-put, rows-rest, rows-left}
+use Rattle.tables.proofs.Kernels.Blocks.{shrink-kept, shrink-same}
 use native.Mathlib.Omega.{arith}
-use Prim.Native.Nat.{_-_}
+use Prim.Native.Nat.{_-_, _^_}
 use Rattle.tables.proofs.blocks.shrink.Statement.{statement}
 use Rattle.tables.proofs.blocks.shrink.Tie as tie
 
 abbrev Inv-loop : tie.InvT-loop
-Inv-loop n e a buf₀ m s i₀ buf i = Rows n (shrunk n e a buf₀ m s) s i buf₀ buf
+Inv-loop n e a buf₀ m s i₀ buf i = Rows n (shrunk n (2 ^ e) a buf₀ m s) s i buf₀ buf
 
 abbrev μ-loop : tie.MeasureT-loop
 μ-loop n e a buf₀ m s i₀ buf i = n - i

@@ -4,18 +4,20 @@ use lib.IntN.{pos, _-ℤ_}
 use lib.ListN.{getD}
 use Rattle.numbers.proofs.Machine.{rd, rd-ok, rd-got}
 use Rattle.tables.specs.Tables.{_·⟨_⟩_, block, entries}
-use Rattle.tables.specs.Buffer.{shrunk}
-use Rattle.tables.proofs.Buffers.Places.{square-small, row-end, row-rest}
-use Rattle.tables.proofs.Buffers.Kernels.{at-zero, shrink-dot, shrink-room, shrink-kept}
+use Rattle.tables.specs.Kernels.{shrunk}
+use Rattle.tables.proofs.Buffers.Places.{square-small, row-end}
+use Rattle.numbers.proofs.Remainders.Moduli.{exponent-most}
+use Rattle.tables.proofs.Kernels.Rows.{row-rest}
+use Rattle.tables.proofs.Kernels.Blocks.{at-zero, shrink-dot, shrink-room, shrink-kept}
 use Rattle.tables.proofs.Algebra.Matrix.{·-cong}
 use native.Mathlib.Omega.{arith}
-use Prim.Native.Nat.{ℕ, _+_, _*_, _-_, _≤_}
+use Prim.Native.Nat.{ℕ, _+_, _*_, _-_, _^_, _≤_}
 use mathlib.Core.Path.{_≡_, ap, _∙_}
 use Rattle.tables.proofs.blocks.shrink_row.Statement.{statement}
 use Rattle.tables.proofs.blocks.shrink_row.Tie as tie
 
 abbrev Inv-loop : tie.InvT-loop
-Inv-loop n e a buf₀ m s i size ma at j₀ buf j = (j ≤ n) × Wrote (pos 0) (shrunk n e a buf₀ m s i) (s * (n * n) + i * n) j buf₀ buf
+Inv-loop n e a buf₀ m s i size ma at j₀ buf j = (j ≤ n) × Wrote (pos 0) (shrunk n (2 ^ e) a buf₀ m s i) (s * (n * n) + i * n) j buf₀ buf
 
 abbrev μ-loop : tie.MeasureT-loop
 μ-loop n e a buf₀ m s i size ma at j₀ buf j = n - j
@@ -79,7 +81,7 @@ sub-requires c κs =
     simp (reads-it c, sums-it c) (shrink-room (r .0) (r .1 .0) (c .before .before .before .loop-test .taken) (r .1 .1))
 
 shr-requires : tie.Need-shr-requires Inv-loop μ-loop
-shr-requires c κs = omega arith
+shr-requires c κs = omega (arith, exponent-most (c .before .before .before .before .before .before .pre .0 .upto))
 
 add-v : tie.Need-add-v Inv-loop μ-loop
 add-v c = let m = c .before .before .before .before .before .before .before .pre in omega (arith, row-end (m .1 .0), m .0 .target, square-small (m .0 .order .upto))

@@ -1,4 +1,4 @@
-use Rattle.tables.proofs.Buffers.Kernels.{low-of, low-flat}
+use Rattle.tables.proofs.Buffers.Bounds.{low-of, low-flat}
 use Rattle.numbers.proofs.Answers.Says.{say-yes, say-no}
 use Rattle.tables.proofs.Buffers.Places.{square-small}
 use Rattle.numbers.proofs.Machine.{rd-ok}

@@ -2,7 +2,7 @@ use lib.ListN.{length}
 use Rattle.numbers.proofs.Machine.{rd-ok}
 use Rattle.tables.specs.Tables.{block}
 use Rattle.tables.proofs.Buffers.Places.{square-small}
-use Rattle.tables.proofs.Buffers.Columns.{head, head-room, head-block, Column, column-none, column-more, column-put}
+use Rattle.tables.proofs.Kernels.Columns.{head, head-room, head-block, Column, column-none, column-more, column-put}
 use native.Mathlib.Omega.{arith}
 use Prim.Native.Nat.{ℕ, _-_, _+_, _*_, _≤_, _<_}
 use mathlib.Core.Path.{_∙_}

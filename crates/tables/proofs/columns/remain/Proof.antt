@@ -5,7 +5,8 @@ use Rattle.tables.proofs.Buffers.Places.{square-small}
 use lib.Pow.{pow-pos}
 use Rattle.numbers.specs.Remainder.{rem}
 use Rattle.numbers.proofs.Remainders.Remainder.{rem-is, rem-unique}
-use Rattle.tables.proofs.Buffers.Columns.{head-room, Column, column-none, column-more, column-put, remain-dot, remain-same, remain-room}
+use Rattle.numbers.proofs.Remainders.Moduli.{exponent-of}
+use Rattle.tables.proofs.Kernels.Columns.{head-room, Column, column-none, column-more, column-put, remain-dot, remain-same, remain-room}
 use native.Mathlib.Omega.{arith}
 use Prim.Native.Nat.{ℕ, _-_, _^_, _+_, _*_, _≤_, _<_}
 use mathlib.Core.Path.{_≡_, _∙_}
@@ -46,7 +47,7 @@ rem-pow-requires : tie.Need-rem-pow-requires Inv-loop μ-loop
 rem-pow-requires c κs =
     let l = c .before .before .before in
     let h = c .before .before .loop-test .taken in
-    simp (sums-it c) ((l .before .pre .from, l .before .pre .upto), remain-room (l .before .pre) (l .loop .inv) h)
+    simp (sums-it c) (exponent-of (l .before .pre .modulus), remain-room (l .before .pre) (l .loop .inv) h)
 
 -- the place that is written
 place : (c : tie.In-loop Inv-loop μ-loop) → let l = c .before in let g = l .before .args in (g .o * (g .n * g .n) + l .loop .i * g .n < length (l .loop .buf)) × ((l .loop .i * g .n ≤ 1024) × (g .n * g .n ≤ 1024))

@@ -3,16 +3,17 @@ use lib.IntN.{_-ℤ_}
 use Rattle.numbers.proofs.Machine.{rd, rd-ok, rd-got}
 use Rattle.tables.specs.Tables.{_·⟨_⟩_, block, entries}
 use Rattle.tables.proofs.Buffers.Places.{square-small}
-use Rattle.tables.specs.Buffer.{shrunk}
-use Rattle.tables.proofs.Buffers.Columns.{head, head-room, Column, column-none, column-more, column-put, shrink-dot, shrink-reads, shrink-sum, shrink-room}
+use Rattle.tables.specs.Kernels.{shrunk}
+use Rattle.numbers.proofs.Remainders.Moduli.{exponent-most}
+use Rattle.tables.proofs.Kernels.Columns.{head, head-room, Column, column-none, column-more, column-put, shrink-dot, shrink-reads, shrink-sum, shrink-room}
 use native.Mathlib.Omega.{arith}
-use Prim.Native.Nat.{ℕ, _-_, _+_, _*_, _≤_, _<_}
+use Prim.Native.Nat.{ℕ, _-_, _+_, _*_, _^_, _≤_, _<_}
 use mathlib.Core.Path.{_≡_, _∙_}
 use Rattle.tables.proofs.columns.shrink.Statement.{statement}
 use Rattle.tables.proofs.columns.shrink.Tie as tie
 
 abbrev Inv-loop : tie.InvT-loop
-Inv-loop n e a buf₀ m s size ma sa i₀ buf i = Column n (λ (i : ℕ). shrunk n e a buf₀ m s i 0) s i buf₀ buf
+Inv-loop n e a buf₀ m s size ma sa i₀ buf i = Column n (λ (i : ℕ). shrunk n (2 ^ e) a buf₀ m s i 0) s i buf₀ buf
 
 abbrev μ-loop : tie.MeasureT-loop
 μ-loop n e a buf₀ m s size ma sa i₀ buf i = n - i
@@ -72,7 +73,7 @@ sub-requires c κs =
     simp (reads-it c, sums-it c) (shrink-room (l .before .pre) (l .loop .inv) (c .before .before .before .loop-test .taken))
 
 shr-requires : tie.Need-shr-requires Inv-loop μ-loop
-shr-requires c κs = omega arith
+shr-requires c κs = omega (arith, exponent-most (c .before .before .before .before .before .before .pre .upto))
 
 mul-v : tie.Need-mul-v Inv-loop μ-loop
 mul-v c = let r = place (c .before .before .before .before .before) in omega arith

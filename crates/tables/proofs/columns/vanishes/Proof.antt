@@ -4,7 +4,7 @@ use borrow.Author.Count.{below-more}
 use Rattle.numbers.proofs.Machine.{bits-zero, zero-bits}
 use Rattle.numbers.proofs.Answers.Says.{say-yes, say-no}
 use Rattle.tables.proofs.Buffers.Places.{square-small}
-use Rattle.tables.proofs.Buffers.Columns.{head, head-room, head-block}
+use Rattle.tables.proofs.Kernels.Columns.{head, head-room, head-block}
 use native.Mathlib.Omega.{arith}
 use Prim.Native.Nat.{ℕ, _-_, _≤_, _<_, _+_, _*_}
 use mathlib.Core.Path.{_≡_, sym, _∙_}

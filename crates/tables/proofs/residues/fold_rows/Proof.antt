@@ -1,12 +1,12 @@
 use Rattle.tables.proofs.Buffers.Residues.{Folding, folding-none, folding-more, fold-rooms}
 use native.Mathlib.Omega.{arith}
-use Prim.Native.Nat.{_-_}
+use Prim.Native.Nat.{_-_, _^_}
 use mathlib.Core.Path.{_≡_}
 use Rattle.tables.proofs.residues.fold_rows.Statement.{statement}
 use Rattle.tables.proofs.residues.fold_rows.Tie as tie
 
 abbrev Inv-loop : tie.InvT-loop
-Inv-loop n x y z₀ k₀ z k = Folding n x y k z₀ z
+Inv-loop n x y z₀ k₀ z k = Folding (2 ^ 32) n x y k z₀ z
 
 abbrev μ-loop : tie.MeasureT-loop
 μ-loop n x y z₀ k₀ z k = n - k
@@ -39,7 +39,7 @@ loop-less c = omega arith
 loop-again : tie.Need-loop-again Inv-loop μ-loop
 loop-again c =
     let l = c .before .before .before .before .before .before in
-    folding-more (c .before .before .before .before .before .loop-test .taken) (l .loop .inv) (c .before .before .fold-row .ensures)
+    folding-more (omega arith) (c .before .before .before .before .before .loop-test .taken) (l .loop .inv) (c .before .before .fold-row .ensures)
 
 same-length : tie.Need-same-length Inv-loop μ-loop
 same-length c = c .before .loop .inv .wrote .long

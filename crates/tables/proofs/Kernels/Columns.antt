@@ -14,11 +14,11 @@ use Rattle.numbers.specs.Limits.{IsOrder}
 use Rattle.numbers.proofs.Algebra.IntOrder.{*ℤ-bound, natAbs-sub}
 use Rattle.numbers.proofs.Algebra.Sum.{sum-bound}
 use Rattle.tables.specs.Tables.{Matrix, _≈⟨_⟩_, _·⟨_⟩_, block, entries, tableAt}
-use Rattle.tables.specs.Buffer.{Dot}
+use Rattle.tables.specs.Kernels.{Dot}
 use Rattle.tables.specs.Columns.{ColumnPut, ToRemain, ToShrink}
 use Rattle.tables.proofs.Algebra.Matrix.{·-cong}
 use Rattle.tables.proofs.Buffers.Places.{square-small, row-end, next-row, beside}
-use Rattle.tables.proofs.Buffers.Kernels.{at-zero}
+use Rattle.tables.proofs.Kernels.Blocks.{at-zero}
 
 -- entry i of the first column
 abbrev pub head : ℕ → List ℤ → ℕ → ℕ → ℤ
@@ -86,7 +86,7 @@ head-room n o N i r h l = (omega (arith, row-end h, r .from), (omega (arith, row
 dot-bound : (A B : Matrix) (i c d n : ℕ) → ((k : ℕ) → k < n → natAbs (A i k) ≤ c) → ((k : ℕ) → k < n → natAbs (B k 0) ≤ d) → natAbs ((A ·⟨ n ⟩ B) i 0) ≤ n * (c * d)
 dot-bound A B i c d n f g = sum-bound n (λ k. A i k *ℤ B k 0) (c * d) (λ k h. *ℤ-bound (A i k) (B k 0) (f k h) (g k h))
 
-module _ {n e : ℕ} {L : List ℤ} {p q o : ℕ} (r : ToRemain n e L p q o) {f : ℕ → ℤ} {i : ℕ} {K : List ℤ} (c : Column n f o i L K) (h : i < n) where
+module _ {n X : ℕ} {L : List ℤ} {p q o : ℕ} (r : ToRemain n X L p q o) {f : ℕ → ℤ} {i : ℕ} {K : List ℤ} (c : Column n f o i L K) (h : i < n) where
   p-same : block n K p ≈⟨ n ⟩ block n L p
   p-same = c .rest p (r .apart)
 
@@ -115,7 +115,7 @@ module _ {n e : ℕ} {L : List ℤ} {p q o : ℕ} (r : ToRemain n e L p q o) {f 
   pub remain-room : natAbs ((block n L p ·⟨ n ⟩ block n L q) i 0) + 2 ^ 40 < 2 ^ 63
   remain-room = omega (arith, dot-bound (block n L p) (block n L q) i (2 ^ 31) (2 ^ 25) n (λ k l. r .low-left .low i k h l) (r .low-right), r .order .upto)
 
-module _ {n e : ℕ} {A L : List ℤ} {m s : ℕ} (r : ToShrink n e A L m s) {f : ℕ → ℤ} {i : ℕ} {K : List ℤ} (c : Column n f s i L K) (h : i < n) where
+module _ {n X : ℕ} {A L : List ℤ} {m s : ℕ} (r : ToShrink n X A L m s) {f : ℕ → ℤ} {i : ℕ} {K : List ℤ} (c : Column n f s i L K) (h : i < n) where
   m-same : block n K m ≈⟨ n ⟩ block n L m
   m-same = c .rest m (r .apart)
 

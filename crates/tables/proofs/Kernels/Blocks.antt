@@ -15,14 +15,14 @@ use Rattle.numbers.proofs.Remainders.Remainder.{rem-is, rem-unique}
 use Rattle.numbers.proofs.Algebra.Sum.{sum, sum-one, sum-bound}
 use Rattle.tables.specs.Tables.{Matrix, _≈⟨_⟩_, _·⟨_⟩_, Zero, block, entries, tableAt}
 use Rattle.numbers.specs.Limits.{IsOrder}
-use Rattle.tables.specs.Buffer.{Low, RowLow, Exact, ExactAt, Dot, Product, Shrink, shrunk, Extend}
+use Rattle.tables.specs.Buffer.{RowLow}
+use Rattle.tables.specs.Kernels.{Exact, ExactAt, Dot, Product, shrunk, Shrink, Extend}
 use Rattle.tables.proofs.Algebra.Matrix.{≈-sym, ·-cong, ·-bound}
-use Rattle.tables.proofs.Buffers.Places.{flat, flat-block, Beside}
+use Rattle.tables.proofs.Buffers.Places.{flat, flat-block}
+use Rattle.tables.proofs.Buffers.Bounds.{low-≈}
+use Rattle.tables.proofs.Kernels.Rows.{Beside}
 
 -- ---- bounds
-
-pub low-≈ : {n c : ℕ} {A B : Matrix} → A ≈⟨ n ⟩ B → Low n c A → Low n c B
-low-≈ {n} {c} e l = record { low = λ i j h k. subst (λ (z : ℤ). natAbs z ≤ c) (e i j h k) (l .low i j h k) }
 
 pub exact-≈ : {n : ℕ} {A B C D : Matrix} → A ≈⟨ n ⟩ C → B ≈⟨ n ⟩ D → Exact n A B → Exact n C D
 exact-≈ e f x = record { c = x .c; d = x .d; left = low-≈ e (x .left); right = low-≈ f (x .right); room = x .room }
@@ -77,7 +77,7 @@ at-zero n A i j h k = let e : 0 + (i * n + j) ≡ i * n + j = omega arith in ap 
 
 -- ---- a division, while block s is written: the factor is as it was, and so are the rows that are not reached
 
-module _ {n e : ℕ} {A L : List ℤ} {m s : ℕ} (r : Shrink n e A L m s) where
+module _ {n X : ℕ} {A L : List ℤ} {m s : ℕ} (r : Shrink n X A L m s) where
   pub shrink-dot : {i j : ℕ} → i < n → j < n → Dot n A 0 L (m * (n * n)) i j
   shrink-dot h k = record {
     order = r .order;
@@ -94,10 +94,11 @@ module _ {n e : ℕ} {A L : List ℤ} {m s : ℕ} (r : Shrink n e A L m s) where
       omega (arith, natAbs-sub (block n L s i j) ((entries n A ·⟨ n ⟩ block n L m) i j), low j k, x .room, ·-bound n (entries n A) (block n L m) {a = x .c} {b = x .d} (x .left .low) (x .right .low) i j h k)
 
   module _ {K : List ℤ} (w : Beside n s L K) where
-    pub shrink-kept : Shrink n e A K m s
+    pub shrink-kept : Shrink n X A K m s
     shrink-kept = record {
       order = r .order;
-      exponent = r .exponent;
+      from = r .from;
+      upto = r .upto;
       size = r .size;
       factor = omega (arith, r .factor, w .long);
       target = omega (arith, r .target, w .long);
@@ -105,17 +106,8 @@ module _ {n e : ℕ} {A L : List ℤ} {m s : ℕ} (r : Shrink n e A L m s) where
       exact = exact-≈ (λ i j a b. refl) (≈-sym (w .rest m (r .apart))) (r .exact);
     }
 
-    pub shrink-same : {i j : ℕ} → i < n → j < n → block n K s i j ≡ block n L s i j → shrunk n e A K m s i j ≡ shrunk n e A L m s i j
-    shrink-same {i} {j} h k q = ap₂ (λ x y. shrZ (x -ℤ y) (2 ^ e)) q (·-cong n {A = entries n A} (λ i j a b. refl) (w .rest m (r .apart)) i j h k)
-
--- a bound of a block, by places
-pub low-flat : {n c : ℕ} (L : List ℤ) (b : ℕ) → IsOrder n → Low n c (block n L b) → (t : ℕ) → t < n * n → natAbs (getD L (b * (n * n) + t) (pos 0)) ≤ c
-low-flat {n} {c} L b o l t h =
-    subst (λ (z : ℤ). natAbs z ≤ c) (flat-block n L b t) (l .low (t / n) (t % n) (div-lt-iff-lt-mul {k = n} (o .from) .1 h) (mod-lt t (o .from)))
-
--- a bound from every place
-pub low-of : {n c : ℕ} (L : List ℤ) (o : ℕ) → ((k : ℕ) → k < n * n → natAbs (getD L (o * (n * n) + k) (pos 0)) ≤ c) → Low n c (block n L o)
-low-of {n} L o f = record { low = λ i j h k. f (i * n + j) (digits-lt h k) }
+    pub shrink-same : {i j : ℕ} → i < n → j < n → block n K s i j ≡ block n L s i j → shrunk n X A K m s i j ≡ shrunk n X A L m s i j
+    shrink-same {i} {j} h k q = ap₂ (λ x y. shrZ (x -ℤ y) X) q (·-cong n {A = entries n A} (λ i j a b. refl) (w .rest m (r .apart)) i j h k)
 
 -- ---- entry by entry
 
@@ -123,15 +115,15 @@ pub balance-gives : (X : ℕ) → 0 < X → (n : ℕ) (L : List ℤ) (o t : ℕ)
 balance-gives X p n L o t {v} {r} e m =
     rem-unique (subst (λ (z : ℤ). IsRem X z r) (e ∙ sym (flat-block n L o t)) m) (rem-is X p (flat n (block n L o) t))
 
-pub extend-gives : (e n : ℕ) (L : List ℤ) (c d t : ℕ) → getD L (c * (n * n) + t) (pos 0) +ℤ pos (2 ^ e) *ℤ getD L (d * (n * n) + t) (pos 0) ≡ flat n (λ i j. block n L c i j +ℤ pos (2 ^ e) *ℤ block n L d i j) t
-extend-gives e n L c d t = sym (ap₂ (λ x y. x +ℤ pos (2 ^ e) *ℤ y) (flat-block n L c t) (flat-block n L d t))
+pub extend-gives : (X n : ℕ) (L : List ℤ) (c d t : ℕ) → getD L (c * (n * n) + t) (pos 0) +ℤ pos X *ℤ getD L (d * (n * n) + t) (pos 0) ≡ flat n (λ i j. block n L c i j +ℤ pos X *ℤ block n L d i j) t
+extend-gives X n L c d t = sym (ap₂ (λ x y. x +ℤ pos X *ℤ y) (flat-block n L c t) (flat-block n L d t))
 
-pub extend-room : {n e : ℕ} {L : List ℤ} {c d : ℕ} → Extend n e L c d → (t : ℕ) → t < n * n → natAbs (getD L (c * (n * n) + t) (pos 0)) + 2 ^ e * natAbs (getD L (d * (n * n) + t) (pos 0)) < 2 ^ 63
-extend-room {n} {e} {L} {c} {d} r t h =
+pub extend-room : {n X : ℕ} {L : List ℤ} {c d : ℕ} → Extend n X L c d → (t : ℕ) → t < n * n → natAbs (getD L (c * (n * n) + t) (pos 0)) + X * natAbs (getD L (d * (n * n) + t) (pos 0)) < 2 ^ 63
+extend-room {n} {X} {L} {c} {d} r t h =
     let o = r .order in
     let q = r .room (t / n) (t % n) (div-lt-iff-lt-mul {k = n} (o .from) .1 h) (mod-lt t (o .from)) in
-    subst (λ (z : ℤ). natAbs (getD L (c * (n * n) + t) (pos 0)) + 2 ^ e * natAbs z < 2 ^ 63) (flat-block n L d t)
-    (subst (λ (z : ℤ). natAbs z + 2 ^ e * natAbs (flat n (block n L d) t) < 2 ^ 63) (flat-block n L c t) q)
+    subst (λ (z : ℤ). natAbs (getD L (c * (n * n) + t) (pos 0)) + X * natAbs z < 2 ^ 63) (flat-block n L d t)
+    (subst (λ (z : ℤ). natAbs z + X * natAbs (flat n (block n L d) t) < 2 ^ 63) (flat-block n L c t) q)
 
 -- a block that is all zero, by places
 pub zero-of : {n : ℕ} (L : List ℤ) (o : ℕ) → ((k : ℕ) → k < n * n → getD L (o * (n * n) + k) (pos 0) ≡ pos 0) → Zero n (block n L o)

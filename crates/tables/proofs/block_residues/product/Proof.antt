@@ -1,14 +1,14 @@
-use Rattle.tables.specs.Residues.{product32}
-use Rattle.tables.proofs.Buffers.Places.{Rows, rows-none, rows-more, rows-put, rows-rest}
+use Rattle.tables.specs.Kernels.{residueProduct}
+use Rattle.tables.proofs.Kernels.Rows.{Rows, rows-none, rows-more, rows-put, rows-rest}
 use Rattle.tables.specs.Tables.{block}
-use Rattle.tables.proofs.Buffers.Residues.{products-kept, products-same}
+use Rattle.tables.proofs.Kernels.Products.{products-kept, products-same}
 use native.Mathlib.Omega.{arith}
-use Prim.Native.Nat.{_-_}
-use Rattle.tables.proofs.residues.product.Statement.{statement}
-use Rattle.tables.proofs.residues.product.Tie as tie
+use Prim.Native.Nat.{_-_, _^_}
+use Rattle.tables.proofs.block_residues.product.Statement.{statement}
+use Rattle.tables.proofs.block_residues.product.Tie as tie
 
 abbrev Inv-loop : tie.InvT-loop
-Inv-loop n y buf₀ p o i₀ buf i = Rows n (product32 n (block n buf₀ p) y) o i buf₀ buf
+Inv-loop n y buf₀ p o i₀ buf i = Rows n (residueProduct (2 ^ 32) n (block n buf₀ p) y) o i buf₀ buf
 
 abbrev μ-loop : tie.MeasureT-loop
 μ-loop n y buf₀ p o i₀ buf i = n - i
@@ -31,7 +31,7 @@ loop-again : tie.Need-loop-again Inv-loop μ-loop
 loop-again c =
     let l = c .before .before .before .before in
     let h = c .before .before .before .loop-test .taken in
-    rows-more h (l .loop .inv) (c .before .product-row .ensures) (λ j k. products-same (l .before .before .pre) (rows-rest (l .loop .inv)) _ j h k)
+    rows-more h (l .loop .inv) (c .before .product-row .ensures) (λ j k. products-same (2 ^ 32) (l .before .before .pre) (rows-rest (l .loop .inv)) _ j h k)
 
 same-length : tie.Need-same-length Inv-loop μ-loop
 same-length c = c .before .loop .inv .wrote .long
