@@ -7,7 +7,9 @@
 --   Keeps n m r C P C′ P′         whatever A is, r rows stay so
 --   Advances n m r C P C′ P′      whatever A is, from r rows the work went on to r + 1
 --   None m k r P                  modulo m, row r of P is 0 from column r up to column k
---   Pivot n r P s                 s is the first column from r on that is odd in row r, or n
+--   Some b z                      b does not divide z
+--   One x z                       z is 1 modulo x
+--   Pivot b n r P s               s is the first column from r on that b does not divide in row r, or n
 use mathlib.Core.Logic.{_≢_}
 use Prim.Native.Nat.{ℕ, _+_, _≤_, _<_}
 use lib.IntN.{ℤ, pos, _+ℤ_, _*ℤ_}
@@ -41,8 +43,14 @@ pub record Advances (n m r : ℕ) (C P C′ P′ : Matrix) : Type 0 where
 abbrev pub None : ℕ → ℕ → ℕ → Matrix → Type 0
 None m k r P = (j : ℕ) → r ≤ j → j < k → Cong (pos m) (P r j) (pos 0)
 
-pub record Pivot (n r : ℕ) (P : Matrix) (s : ℕ) : Type 0 where
+abbrev pub Some : ℕ → ℤ → Type 0
+Some b z = ¬ Cong (pos b) z (pos 0)
+
+abbrev pub One : ℕ → ℤ → Type 0
+One x z = Cong (pos x) z (pos 1)
+
+pub record Pivot (b n r : ℕ) (P : Matrix) (s : ℕ) : Type 0 where
   pub from : r ≤ s
   pub upto : s ≤ n
-  pub none : None 2 s r P
-  pub one : s < n → Cong (pos 2) (P r s) (pos 1)
+  pub none : None b s r P
+  pub some : s < n → Some b (P r s)

@@ -6,16 +6,16 @@ ghost use lib.IntN.{pos, negℤ, _-ℤ_, _*ℤ_};
 ghost use lib.ListN.{length};
 ghost use Rattle.numbers.specs.Limits.{Lawful};
 ghost use Rattle.numbers.specs.Numbers.{Cong, δ};
-ghost use Rattle.tables.specs.Tables.{_·⟨_⟩_, _ᵀ, CongM, entries, HasInverseMod};
+ghost use Rattle.tables.specs.Tables.{_·⟨_⟩_, _≈⟨_⟩_, _ᵀ, CongM, entries, HasInverseMod};
 ghost use Rattle.tables.specs.Buffer.{Has};
-ghost use Rattle.tables.specs.Elimination.{Advances, None, Pivot};
-ghost use Rattle.tables.specs.Inverting.{Inverted, Spans, Zeros, RowStep, Ready, Sweep};
+ghost use Rattle.tables.specs.Elimination.{None, Some, One, Pivot};
+ghost use Rattle.tables.specs.Inverting.{Inverted, Spans, Zeros, RowStep, Ready, Sweep, Settled};
 ghost use Rattle.tables.specs.Residues.{residues};
 
-// Block o becomes an inverse of the table a modulo 2^32, in residues from 0 to 2^32 - 1.
+// Block o becomes some inverse of the table a modulo 2^32, with entries within 2^32; every other block is as it was.
 pub fn inverse(n: usize, a: &[i64], buf: &mut [i64], o: usize)
     requires { ⌜ (Lawful n (now a)) × ((HasInverseMod n 2 (entries n (now a))) × (Has n (now buf) o)) ⌝ }
-    ensures { λ _. ⌜ Inverted n (entries n (now (a .entry))) o (now (buf .entry)) (now (buf .exit)) ⌝ }
+    ensures { λ _. ⌜ Inverted n (2 ^ 32) (entries n (now (a .entry))) o (now (buf .entry)) (now (buf .exit)) ⌝ }
 {
     let mut c = [0u32; 1024];
     let mut p = [0u32; 1024];
@@ -42,7 +42,7 @@ fn solve(n: usize, a: &[i64], c: &mut [u32], p: &mut [u32])
 fn settle(n: usize, r: usize, c: &mut [u32], p: &mut [u32])
     requires { ⌜ (r < n) × Spans n (now c) (now p) ⌝ }
     requires { ⌜ ¬ None 2 n r (residues n (now p) ᵀ) ⌝ }
-    ensures { λ _. ⌜ (Spans n (now (c .exit)) (now (p .exit))) × Advances n (2 ^ 32) r (residues n (now (c .entry)) ᵀ) (residues n (now (p .entry)) ᵀ) (residues n (now (c .exit)) ᵀ) (residues n (now (p .exit)) ᵀ) ⌝ }
+    ensures { λ _. ⌜ Settled (2 ^ 32) n r (now (c .entry)) (now (p .entry)) (now (c .exit)) (now (p .exit)) ⌝ }
 {
     lead(n, r, c, p);
     scale(n, r, c, p);
@@ -53,7 +53,7 @@ fn settle(n: usize, r: usize, c: &mut [u32], p: &mut [u32])
 fn lead(n: usize, r: usize, c: &mut [u32], p: &mut [u32])
     requires { ⌜ (r < n) × Spans n (now c) (now p) ⌝ }
     requires { ⌜ ¬ None 2 n r (residues n (now p) ᵀ) ⌝ }
-    ensures { λ _. ⌜ Ready (pos 2) n r (now (c .entry)) (now (p .entry)) (now (c .exit)) (now (p .exit)) ⌝ }
+    ensures { λ _. ⌜ Ready (Some 2) (2 ^ 32) n r (now (c .entry)) (now (p .entry)) (now (c .exit)) (now (p .exit)) ⌝ }
 {
     let s = pivot(n, r, p);
     if s != r {
@@ -66,7 +66,7 @@ fn lead(n: usize, r: usize, c: &mut [u32], p: &mut [u32])
 fn pivot(n: usize, r: usize, p: &[u32]) -> usize
     requires { ⌜ (n ≤ 32) × ((r < n) × (n * n ≤ length (now p))) ⌝ }
     requires { ⌜ ¬ None 2 n r (residues n (now p) ᵀ) ⌝ }
-    ensures { λ s. ⌜ (s < n) × Pivot n r (residues n (now (p .entry)) ᵀ) s ⌝ }
+    ensures { λ s. ⌜ (s < n) × Pivot 2 n r (residues n (now (p .entry)) ᵀ) s ⌝ }
 {
     let mut s = r;
     while p[s * n + r] % 2 == 0 {
@@ -78,7 +78,7 @@ fn pivot(n: usize, r: usize, p: &[u32]) -> usize
 // Row d gains row s.
 fn gain(n: usize, d: usize, s: usize, t: &mut [u32])
     requires { ⌜ (n ≤ 32) × ((d < n) × ((s < n) × (n * n ≤ length (now t)))) ⌝ }
-    ensures { λ _. ⌜ RowStep n d s (pos 1) (pos 1) (now (t .entry)) (now (t .exit)) ⌝ }
+    ensures { λ _. ⌜ RowStep (2 ^ 32) n d s (pos 1) (pos 1) (now (t .entry)) (now (t .exit)) ⌝ }
 {
     let mut row = [0u32; 32];
     crate::residues::copy_row(n, t, s * n, &mut row);
@@ -88,8 +88,8 @@ fn gain(n: usize, d: usize, s: usize, t: &mut [u32])
 // Row r, whose entry in column r of p is odd, is multiplied so that this entry is 1.
 fn scale(n: usize, r: usize, c: &mut [u32], p: &mut [u32])
     requires { ⌜ (r < n) × Spans n (now c) (now p) ⌝ }
-    requires { ⌜ Cong (pos 2) (residues n (now p) r r) (pos 1) ⌝ }
-    ensures { λ _. ⌜ Ready (pos (2 ^ 32)) n r (now (c .entry)) (now (p .entry)) (now (c .exit)) (now (p .exit)) ⌝ }
+    requires { ⌜ Some 2 (residues n (now p) r r) ⌝ }
+    ensures { λ _. ⌜ Ready (One (2 ^ 32)) (2 ^ 32) n r (now (c .entry)) (now (p .entry)) (now (c .exit)) (now (p .exit)) ⌝ }
 {
     let u = unit(p[r * n + r]);
     crate::residues::scale_row(n, u, c, r * n);
@@ -99,8 +99,8 @@ fn scale(n: usize, r: usize, c: &mut [u32], p: &mut [u32])
 // Row r, whose entry in column r of p is 1, clears that column in every other row.
 fn clear(n: usize, r: usize, c: &mut [u32], p: &mut [u32])
     requires { ⌜ (r < n) × Spans n (now c) (now p) ⌝ }
-    requires { ⌜ Cong (pos (2 ^ 32)) (residues n (now p) r r) (pos 1) ⌝ }
-    ensures { λ _. ⌜ (Spans n (now (c .exit)) (now (p .exit))) × Advances n (2 ^ 32) r (residues n (now (c .entry)) ᵀ) (residues n (now (p .entry)) ᵀ) (residues n (now (c .exit)) ᵀ) (residues n (now (p .exit)) ᵀ) ⌝ }
+    requires { ⌜ One (2 ^ 32) (residues n (now p) r r) ⌝ }
+    ensures { λ _. ⌜ Settled (2 ^ 32) n r (now (c .entry)) (now (p .entry)) (now (c .exit)) (now (p .exit)) ⌝ }
 {
     let mut v = [0u32; 32];
     let mut w = [0u32; 32];
@@ -111,8 +111,8 @@ fn clear(n: usize, r: usize, c: &mut [u32], p: &mut [u32])
 
 // The same, with the rows r of c and p in v and w.
 fn sweep(n: usize, r: usize, v: &[u32], w: &[u32], c: &mut [u32], p: &mut [u32])
-    requires { ⌜ Sweep n r (now v) (now w) (now c) (now p) ⌝ }
-    ensures { λ _. ⌜ (Spans n (now (c .exit)) (now (p .exit))) × Advances n (2 ^ 32) r (residues n (now (c .entry)) ᵀ) (residues n (now (p .entry)) ᵀ) (residues n (now (c .exit)) ᵀ) (residues n (now (p .exit)) ᵀ) ⌝ }
+    requires { ⌜ Sweep (2 ^ 32) n r (now v) (now w) (now c) (now p) ⌝ }
+    ensures { λ _. ⌜ Settled (2 ^ 32) n r (now (c .entry)) (now (p .entry)) (now (c .exit)) (now (p .exit)) ⌝ }
 {
     let mut d: usize = 0;
     while d < n {
@@ -128,7 +128,7 @@ fn sweep(n: usize, r: usize, v: &[u32], w: &[u32], c: &mut [u32], p: &mut [u32])
 // Ones on the diagonal of a table of zeros.
 fn ones(n: usize, c: &mut [u32])
     requires { ⌜ (n ≤ 32) × ((n * n ≤ length (now c)) × Zeros (now c)) ⌝ }
-    ensures { λ _. ⌜ (length (now (c .exit)) ≡ length (now (c .entry))) × CongM n (pos (2 ^ 32)) (residues n (now (c .exit)) ᵀ) δ ⌝ }
+    ensures { λ _. ⌜ (length (now (c .exit)) ≡ length (now (c .entry))) × (residues n (now (c .exit)) ᵀ ≈⟨ n ⟩ δ) ⌝ }
 {
     let mut i: usize = 0;
     while i < n {
@@ -139,8 +139,8 @@ fn ones(n: usize, c: &mut [u32])
 
 // An inverse of an odd number modulo 2^32: each step doubles the number of bits that are right.
 fn unit(g: u32) -> u32
-    requires { ⌜ Cong (pos 2) (pos g) (pos 1) ⌝ }
-    ensures { λ u. ⌜ Cong (pos (2 ^ 32)) (pos u *ℤ pos g) (pos 1) ⌝ }
+    requires { ⌜ Some 2 (pos g) ⌝ }
+    ensures { λ u. ⌜ One (2 ^ 32) (pos u *ℤ pos g) ⌝ }
 {
     let h1 = better(g, 1);
     let h2 = better(g, h1);

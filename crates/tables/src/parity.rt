@@ -46,7 +46,7 @@ fn settle(n: usize, r: usize, p: &mut [u32; 32]) -> bool
 // The first word from r on that has bit r, or n.
 fn pivot(n: usize, r: usize, p: &[u32; 32]) -> usize
     requires { ⌜ (n ≤ 32) × (r < n) ⌝ }
-    ensures { λ s. ⌜ Pivot n r (bits (now (p .entry))) s ⌝ }
+    ensures { λ s. ⌜ Pivot 2 n r (bits (now (p .entry))) s ⌝ }
 {
     let mut s = r;
     while s < n {

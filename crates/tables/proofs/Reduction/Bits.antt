@@ -22,7 +22,7 @@ use Rattle.numbers.proofs.Algebra.RingSolver.{ring, #_, ⊝_, _⊕_, _⊖_, _�
 use Rattle.numbers.proofs.Remainders.Congruence.{Cong, cong-of-eq, cong-sym, cong-trans}
 use Rattle.numbers.proofs.Remainders.Division.{residue-cong}
 use Rattle.tables.specs.Parity.{bits, xored}
-use Rattle.tables.specs.Elimination.{Stepped}
+use Rattle.tables.specs.Elimination.{Stepped, Some, One}
 
 -- ---- one bit
 
@@ -74,12 +74,14 @@ one-shl i h = shl-exact {a = 1} 1 i 32 (omega arith) (omega arith) ∙ one-mul (
 mod2-cong : (k : ℕ) → Cong (pos 2) (pos (k % 2)) (pos k)
 mod2-cong k = residue-cong 2 (omega arith) (pos k)
 
-pub even-cong : {k : ℕ} → k % 2 ≡ 0 → Cong (pos 2) (pos k) (pos 0)
-even-cong {k} e = cong-trans (cong-sym (mod2-cong k)) (cong-of-eq (pos 2) (ap pos e))
-
-pub odd-cong : {k : ℕ} → k % 2 ≢ 0 → Cong (pos 2) (pos k) (pos 1)
-odd-cong {k} e =
-    let l : k % 2 < 2 = mod-lt k (omega arith) in let o : k % 2 ≡ 1 = omega arith in cong-trans (cong-sym (mod2-cong k)) (cong-of-eq (pos 2) (ap pos o))
+-- what 2 does not divide is 1 modulo 2
+pub odd-one : {k : ℕ} → Some 2 (pos k) → One 2 (pos k)
+odd-one {k} f = go (k % 2) (mod-lt k (omega arith)) (cong-sym (mod2-cong k))
+  where
+    go : (r : ℕ) → r < 2 → Cong (pos 2) (pos k) (pos r) → One 2 (pos k)
+    go zero h c = absurd (f c)
+    go (suc zero) h c = c
+    go (suc (suc r)) h c = absurd (omega arith)
 
 odd-pos : (z : ℤ) (m : ℕ) → m < 2 → Cong (pos 2) (pos m) z → Says (Cong (pos 2) z (pos 1)) (Cong (pos 2) z (pos 0)) (not (eqb m 0))
 odd-pos z zero h e = say-no (cong-sym e)

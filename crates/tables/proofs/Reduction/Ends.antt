@@ -14,7 +14,7 @@ use Rattle.numbers.specs.Limits.{Lawful}
 use Rattle.numbers.specs.Remainder.{residue}
 use Rattle.numbers.proofs.Algebra.Sum.{δ, δ-same, δ-other, δ-comm}
 use Rattle.numbers.proofs.Remainders.Congruence.{cong-of-eq, cong-trans}
-use Rattle.tables.specs.Tables.{Matrix, _·⟨_⟩_, _ᵀ, CongM, entries}
+use Rattle.tables.specs.Tables.{Matrix, _≈⟨_⟩_, _·⟨_⟩_, _ᵀ, CongM, entries}
 use Rattle.tables.specs.Buffer.{BlockPut, Wrote}
 use Rattle.tables.specs.Inverting.{Inverted, Spans, Zeros}
 use Rattle.tables.specs.Residues.{residues, Takes}
@@ -24,7 +24,6 @@ use Rattle.tables.proofs.Buffers.Places.{square-small, put-of}
 use Rattle.tables.proofs.Buffers.Bounds.{low-≈}
 use Rattle.tables.proofs.Buffers.Residues.{taken}
 use Rattle.tables.proofs.Checking.Heights.{legal-at}
-use Rattle.tables.proofs.Reduction.Units.{X}
 
 -- ---- ones on the diagonal
 
@@ -77,8 +76,8 @@ diagonal-more {n} {k} {old} {t} h l q = record {
         ap pos (other i j (λ p. f (same-column i j hj p)) ∙ q .left i j (omega arith) hj) ∙ sym (δ-other (λ p. f (sym p ∙ e)))
     row i j hi hj (yes e) (yes f) = rw (e, f) (ap pos (getD-set-same t (k * n + k) 1 0 fits) ∙ sym (δ-same k))
 
-pub diagonal-all : {n k : ℕ} {old t : List ℕ} → k ≡ n → Diagonal n k old t → CongM n X (residues n t ᵀ) δ
-diagonal-all e q i j hi hj = cong-of-eq X (q .done j i (omega arith) hi ∙ δ-comm j i)
+pub diagonal-all : {n k : ℕ} {old t : List ℕ} → k ≡ n → Diagonal n k old t → residues n t ᵀ ≈⟨ n ⟩ δ
+diagonal-all e q i j hi hj = q .done j i (omega arith) hi ∙ δ-comm j i
 
 -- ---- the residues of a table
 
@@ -89,16 +88,16 @@ load-asks {n} {a} l h = record {
   low = λ q k. omega (arith, legal-at a (l .legal) (0 + q) (omega (arith, l .size)));
 }
 
-pub loaded : {n : ℕ} (a : List ℤ) {p p′ : List ℕ} → Wrote 0 (λ q. residue (2 ^ 32) (getD a (0 + q) (pos 0))) 0 (n * n) p p′ → CongM n X (residues n p′ ᵀ) (entries n a ᵀ)
-loaded {n} a w i j hi hj = cong-trans (taken a 0 (omega arith) w j i hj hi) (cong-of-eq X (ap (λ (k : ℕ). getD a k (pos 0)) (zero-add (j * n + i))))
+pub loaded : {n X : ℕ} (a : List ℤ) {p p′ : List ℕ} → 0 < X → Wrote 0 (λ q. residue X (getD a (0 + q) (pos 0))) 0 (n * n) p p′ → CongM n (pos X) (residues n p′ ᵀ) (entries n a ᵀ)
+loaded {n} {X} a some w i j hi hj = cong-trans (taken a 0 some w j i hj hi) (cong-of-eq (pos X) (ap (λ (k : ℕ). getD a k (pos 0)) (zero-add (j * n + i))))
 
 -- ---- the solution
 
-pub inverted : {n o : ℕ} (A : Matrix) (c : List ℕ) {old new : List ℤ} → CongM n X (A ·⟨ n ⟩ residues n c) δ
-    → Wrote (pos 0) (λ t. pos (getD c t 0)) (o * (n * n)) (n * n) old new → ((t : ℕ) → t < n * n → getD c t 0 < 2 ^ 32) → Inverted n A o old new
-inverted {n} {o} A c {old} {new} e w l = record {
+pub inverted : {n X o : ℕ} (A : Matrix) (c : List ℕ) {old new : List ℤ} → CongM n (pos X) (A ·⟨ n ⟩ residues n c) δ
+    → Wrote (pos 0) (λ t. pos (getD c t 0)) (o * (n * n)) (n * n) old new → ((t : ℕ) → t < n * n → getD c t 0 < 2 ^ 32) → Inverted n X A o old new
+inverted {n} {X} {o} A c {old} {new} e w l = record {
   long = p .long;
-  right = congM-trans n X (congM-· n X (congM-refl n X A) (congM-eq n X (p .there))) e;
+  right = congM-trans n (pos X) (congM-· n (pos X) (congM-refl n (pos X) A) (congM-eq n (pos X) (p .there))) e;
   low = low-≈ (≈-sym (p .there)) (record { low = λ i j h k. let b = l (i * n + j) (digits-lt h k) in omega arith });
   rest = p .rest;
 }

@@ -11,7 +11,7 @@ use Rattle.numbers.proofs.Algebra.RingSolver.{ring, #_, ⊝_, _⊕_, _⊖_, _�
 use Rattle.numbers.proofs.Algebra.Sum.{δ, δ-same, δ-other}
 use Rattle.numbers.proofs.Remainders.Congruence.{Cong, cong-of-eq, cong-refl, cong-sym, cong-down, cong-trans, cong-near, cong-+, cong-*, cong-sub, cong-sum}
 use Rattle.tables.specs.Tables.{Matrix, _⊟_, _·⟨_⟩_, CongM, HasInverseMod}
-use Rattle.tables.specs.Elimination.{Stepped, Going, None, Pivot}
+use Rattle.tables.specs.Elimination.{Stepped, Going, None, Some, Pivot}
 use Rattle.tables.proofs.Algebra.Matrix.{·-idʳ}
 use Rattle.tables.proofs.Algebra.MatrixSolver.{matrix, modular, given_is_by_and_then_, 𝟘ᵉ, 𝟙, _⊟ᵉ_, _·ᵉ_, _⊙ᵉ_, _≑_}
 use Rattle.tables.proofs.Inverses.Laws.{no-inverse}
@@ -30,12 +30,14 @@ going-first {n} {m} {A} {C} {P} c p = record {
   rows = λ i h. absurd (omega arith);
 }
 
--- ---- column s, the pivot, is added to column r, whose entry in row r is even
+-- ---- column s, the pivot, is added to column r, whose entry in row r is a multiple of b
 
-pub pivot-odd : {n r s : ℕ} {P P′ : Matrix} → r < n → s < n → s ≢ r → Pivot n r P s → Stepped (pos 2) n r s (pos 1) (pos 1) P P′ → Cong (pos 2) (P′ r r) (pos 1)
-pivot-odd {r = r} {P = P} h l e v p =
-    let even : Cong (pos 2) (P r r) (pos 0) = v .none r (omega arith) (omega (arith, v .from)) in
-    cong-trans (p .here r h) (cong-+ (cong-* (cong-refl (pos 1)) even) (cong-* (cong-refl (pos 1)) (v .one l)))
+pub pivot-some : {b n r s : ℕ} {P P′ : Matrix} → r < n → s < n → s ≢ r → Pivot b n r P s → Stepped (pos b) n r s (pos 1) (pos 1) P P′ → Some b (P′ r r)
+pivot-some {b} {r = r} {s = s} {P = P} h l e v p z =
+    let zero : Cong (pos b) (P r r) (pos 0) = v .none r (omega arith) (omega (arith, v .from)) in
+    v .some l
+    (cong-trans (cong-of-eq (pos b) (ring 2 (λ x y. y ≐ # 1 ⊗ x ⊕ # 1 ⊗ y ⊖ x) tt (P r r) (P r s)))
+    (cong-sub (cong-trans (cong-sym (p .here r h)) z) zero))
 
 -- ---- a row is cleared, by column r, whose entry in it is 1
 

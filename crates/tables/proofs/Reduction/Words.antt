@@ -14,8 +14,8 @@ use Rattle.tables.specs.Tables.{Matrix}
 use Rattle.tables.specs.Elimination.{Reaches, Pivot}
 use Rattle.tables.specs.Parity.{bits, xored, Sized, Settles}
 use Rattle.tables.proofs.Reduction.Steps.{moved, moved-is, going-add}
-use Rattle.tables.proofs.Reduction.Stages.{Clearing, pivot-odd, clear-none, clear-pivot, clear-pass, clear-add, clear-all}
-use Rattle.tables.proofs.Reduction.Bits.{bit-one, xor-step}
+use Rattle.tables.proofs.Reduction.Stages.{Clearing, pivot-some, clear-none, clear-pivot, clear-pass, clear-add, clear-all}
+use Rattle.tables.proofs.Reduction.Bits.{bit-one, odd-one, xor-step}
 
 pub sized-set : {n : ℕ} {p : List ℕ} (m w : ℕ) → Sized n p → Sized n (set p m w)
 sized-set m w z = record { order = z .order; long = rw length-set (z .long) }
@@ -68,9 +68,9 @@ pub record Led (n r : ℕ) (p p′ : List ℕ) : Type 0 where
   pub one : Cong (pos 2) (bits p′ r r) (pos 1)
   pub goes : (A : Matrix) → Reaches n 2 r A (bits p) → Reaches n 2 r A (bits p′)
 
-module _ {n r s : ℕ} {p : List ℕ} (z : Sized n p) (v : Pivot n r (bits p) s) (h : r < n) where
+module _ {n r s : ℕ} {p : List ℕ} (z : Sized n p) (v : Pivot 2 n r (bits p) s) (h : r < n) where
   pub led-here : s ≡ r → Led n r p p
-  led-here e = record { sized = z; one = rw e at (v .one (omega arith)); goes = λ A g. g }
+  led-here e = record { sized = z; one = odd-one (rw e at (v .some (omega arith))); goes = λ A g. g }
 
   pub led-join : s ≢ n → s ≢ r → Led n r p (xored p r s)
   led-join f e =
@@ -78,6 +78,6 @@ module _ {n r s : ℕ} {p : List ℕ} (z : Sized n p) (v : Pivot n r (bits p) s)
       let x = xor-step p r s (omega (arith, z .long)) in
       record {
         sized = sized-xor r s z;
-        one = pivot-odd h l e v x;
+        one = odd-one (pivot-some h l e v x);
         goes = λ A g. record { C = moved r s (pos 1) (pos 1) (g .C); going = going-add (v .from) l e (moved-is (g .C)) x (g .going) };
       }

@@ -1,5 +1,6 @@
 use Rattle.tables.proofs.Reduction.Units.{better-is}
 use borrow.Author.Needs.{needs}
+use native.Mathlib.Omega.{arith}
 use Rattle.tables.proofs.elimination.better.Statement.{statement}
 use Rattle.tables.proofs.elimination.better.Tie as tie
 
@@ -15,7 +16,7 @@ fold-requires-2 c κs = search needs
 returns : tie.Need-returns
 returns c =
     let s = c .before .before .before .args in
-    better-is (s .g) (s .h) _ _ (c .before .before .negative .ensures) (c .before .fold .ensures) (c .fold2 .ensures)
+    better-is (omega arith) (s .g) (s .h) _ _ (c .before .before .negative .ensures) (c .before .fold .ensures) (c .fold2 .ensures)
 
 pub better-spec : {M : Type 1} → statement M
 better-spec = tie.close (tie.spec negative-requires fold-requires fold-requires-2 returns)

@@ -27,7 +27,7 @@ same-length : tie.Need-same-length
 same-length c = search needs
 
 returns : tie.Need-returns
-returns c = row-gains (held-copy (c .before .before .before .before .before .before .before .before .before .before .pre .0) (c .before .before .before .before .before .before .copy-row .ensures)) (c .before .before .fold-row .ensures)
+returns c = row-gains (omega arith) (held-copy (c .before .before .before .before .before .before .before .before .before .before .pre .0) (c .before .before .before .before .before .before .copy-row .ensures)) (c .before .before .fold-row .ensures)
 
 pub gain-spec : {M : Type 1} → statement M
 gain-spec =

@@ -1,5 +1,8 @@
 use Rattle.tables.proofs.Reduction.Rows.{lead-here, lead-gain}
 use borrow.Author.Needs.{needs}
+use mathlib.Core.Path.{refl}
+use Prim.Native.Nat.{_^_}
+use lib.IntN.{pos}
 use Rattle.tables.proofs.elimination.lead.Statement.{statement}
 use Rattle.tables.proofs.elimination.lead.Tie as tie
 
@@ -22,7 +25,7 @@ returns : tie.Need-returns
 returns c =
     let s = c .before .before .before .before .before .before .before .before .before .before .before .before .before .pre .0 in
     let v = c .before .before .before .before .before .before .before .before .before .pivot .ensures in
-    lead-gain (s .1) (v .1) (s .0) (v .0) (c .before .before .before .before .before .before .before .before .if1 .taken) (c .before .before .before .before .before .before .gain .ensures) (c .before .before .gain2 .ensures)
+    lead-gain (s .1) (v .1) (s .0) (v .0) (record { quot = pos (2 ^ 31); eqn = refl }) (c .before .before .before .before .before .before .before .before .if1 .taken) (c .before .before .before .before .before .before .gain .ensures) (c .before .before .gain2 .ensures)
 
 same-length-3 : tie.Need-same-length-3
 same-length-3 c = search needs

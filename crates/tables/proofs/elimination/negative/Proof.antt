@@ -1,5 +1,7 @@
 use Rattle.tables.proofs.Reduction.Units.{fold-negative}
 use borrow.Author.Needs.{needs}
+use Prim.Native.Nat.{_^_}
+use native.Mathlib.Omega.{arith}
 use Rattle.tables.proofs.elimination.negative.Statement.{statement}
 use Rattle.tables.proofs.elimination.negative.Tie as tie
 
@@ -7,7 +9,7 @@ fold-requires : tie.Need-fold-requires
 fold-requires c κs = search needs
 
 returns : tie.Need-returns
-returns c = rw (c .fold .ensures) (fold-negative (c .before .args .v))
+returns c = rw (c .fold .ensures) (fold-negative {X = 2 ^ 32} (omega arith) (c .before .args .v))
 
 pub negative-spec : {M : Type 1} → statement M
 negative-spec = tie.close (tie.spec fold-requires returns)

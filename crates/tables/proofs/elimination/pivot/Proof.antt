@@ -3,7 +3,7 @@ use Rattle.tables.specs.Tables.{_ᵀ}
 use Rattle.tables.specs.Elimination.{None}
 use Rattle.tables.specs.Residues.{residues}
 use Rattle.tables.proofs.Reduction.Stages.{none-more}
-use Rattle.tables.proofs.Reduction.Bits.{even-cong, odd-cong}
+use Rattle.tables.proofs.Reduction.Units.{is-multiple, not-multiple}
 use Rattle.tables.proofs.Buffers.Places.{square-small}
 use lib.Arith.{digits-lt}
 use native.Mathlib.Omega.{arith}
@@ -46,12 +46,12 @@ loop-again : tie.Need-loop-again Inv-loop μ-loop
 loop-again c =
     let l = c .before .before in
     let g = l .before .args in
-    (omega arith, (omega (arith, inside l), none-more 2 _ _ (residues (g .n) (g .p .now) ᵀ) (l .loop .inv .1 .1) (even-cong (c .if1 .taken))))
+    (omega arith, (omega (arith, inside l), none-more 2 _ _ (residues (g .n) (g .p .now) ᵀ) (l .loop .inv .1 .1) (is-multiple (omega arith) (c .if1 .taken))))
 
 returns : tie.Need-returns Inv-loop μ-loop
 returns c =
     let l = c .before .before in
-    (inside l, record { from = l .loop .inv .0; upto = l .loop .inv .1 .0; none = l .loop .inv .1 .1; one = λ h. odd-cong (c .if1 .left) })
+    (inside l, record { from = l .loop .inv .0; upto = l .loop .inv .1 .0; none = l .loop .inv .1 .1; some = λ h. not-multiple (omega arith) (c .if1 .left) })
 
 pub pivot-spec : {M : Type 1} → statement M
 pivot-spec =

@@ -42,7 +42,7 @@ same-length-2 c = search needs
 returns : tie.Need-returns
 returns c =
     let s = c .before .before .before .before .before .before .before .before .before .before .before .before .pre .0 in
-    scale-ready (s .0) (s .1) (c .before .before .before .before .before .before .before .before .unit .ensures) (row-scales (c .before .before .before .before .before .before .scale-row .ensures)) (row-scales (c .before .before .scale-row2 .ensures))
+    scale-ready (s .0) (s .1) (c .before .before .before .before .before .before .before .before .unit .ensures) (row-scales (omega arith) (c .before .before .before .before .before .before .scale-row .ensures)) (row-scales (omega arith) (c .before .before .scale-row2 .ensures))
 
 pub scale-spec : {M : Type 1} → statement M
 scale-spec =

@@ -22,7 +22,7 @@ returns c =
     let a = c .before .before .before .before .before .before .before .before .before .before .before .before .before .before .before .before .before .before .lead .ensures in
     let b = c .before .before .before .before .before .before .before .before .before .before .before .scale .ensures in
     let d = c .before .before .before .before .clear .ensures in
-    (d .0, record { on = λ A g. d .1 .on A (b .keeps .on A (a .keeps .on A g)) })
+    record { spans = d .spans; advances = record { on = λ A g. d .advances .on A (b .keeps .on A (a .keeps .on A g)) } }
 
 pub settle-spec : {M : Type 1} → statement M
 settle-spec =

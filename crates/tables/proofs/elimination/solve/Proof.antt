@@ -4,6 +4,7 @@ use Rattle.tables.specs.Tables.{_ᵀ, entries}
 use Rattle.tables.specs.Elimination.{Going}
 use Rattle.tables.specs.Inverting.{Spans}
 use Rattle.tables.specs.Residues.{residues}
+use Rattle.tables.proofs.Algebra.Matrix.{congM-eq}
 use Rattle.tables.proofs.Buffers.Places.{square-small}
 use Rattle.tables.proofs.Inverses.Turned.{inverse-turned, has-turned}
 use Rattle.tables.proofs.Reduction.Stages.{going-first, found, stuck}
@@ -43,7 +44,7 @@ loop-holds c =
           refl,
           (
             record { order = z .order; long-c = omega (arith, e .0, z .long-c); long-p = omega (arith, w .long, z .long-p) },
-            going-first (e .1) (loaded (s .args .a .now) w),
+            going-first (congM-eq _ (pos (2 ^ 32)) (e .1)) (loaded (s .args .a .now) (omega arith) w),
           ),
         ),
       ),
@@ -67,7 +68,7 @@ loop-again : tie.Need-loop-again Inv-loop μ-loop
 loop-again c =
     let v = c .before .before .before .before .before .before .before .before .loop .inv .1 in
     let e = c .before .before .before .before .settle .ensures in
-    (omega arith, (omega (arith, v .0, c .before .before .before .c2 .given), (omega (arith, v .1 .0, c .before .p2 .given), (e .0, e .1 .on _ (v .1 .1 .1)))))
+    (omega arith, (omega (arith, v .0, c .before .before .before .c2 .given), (omega (arith, v .1 .0, c .before .p2 .given), (e .spans, e .advances .on _ (v .1 .1 .1)))))
 
 same-length : tie.Need-same-length Inv-loop μ-loop
 same-length c = c .before .loop .inv .1 .0 ∙ c .before .before .before .before .before .before .before .before .ones .ensures .0

@@ -6,12 +6,12 @@ use Rattle.tables.proofs.Reduction.Rows.{Sweeping, row-gains, sweep-non
 use Rattle.tables.proofs.Buffers.Places.{square-small, row-end}
 use lib.Arith.{digits-lt}
 use native.Mathlib.Omega.{arith}
-use Prim.Native.Nat.{ℕ, _+_, _-_, _*_, _≤_, _<_}
+use Prim.Native.Nat.{ℕ, _+_, _-_, _*_, _^_, _≤_, _<_}
 use Rattle.tables.proofs.elimination.sweep.Statement.{statement}
 use Rattle.tables.proofs.elimination.sweep.Tie as tie
 
 abbrev Inv-loop : tie.InvT-loop
-Inv-loop n r v w c₀ p₀ d₀ c p d = (d ≤ n) × Sweeping n d r v w c₀ p₀ c p
+Inv-loop n r v w c₀ p₀ d₀ c p d = (d ≤ n) × Sweeping (2 ^ 32) n d r v w c₀ p₀ c p
 
 abbrev μ-loop : tie.MeasureT-loop
 μ-loop n r v w c₀ p₀ d₀ c p d = n - d
@@ -74,7 +74,7 @@ loop-less c = omega arith
 abbrev Goal : tie.Joined1 Inv-loop μ-loop → List ℕ → List ℕ → Type 0
 Goal c x y =
     let g = c .before .before .before .before .before .before .before .args in
-    Sweeping (g .n) (c .before .before .loop .d + 1) (g .r) (g .v .now) (g .w .now) (g .c .now) (g .p .now) x y
+    Sweeping (2 ^ 32) (g .n) (c .before .before .loop .d + 1) (g .r) (g .v .now) (g .w .now) (g .c .now) (g .p .now) x y
 
 loop-again : tie.Need-loop-again Inv-loop μ-loop
 loop-again c =
@@ -82,7 +82,7 @@ loop-again c =
     let s = c .before .before .before .before .before .before .before .pre in (
       omega arith,
       ⊎-elim
-          (λ w. subst₂ (Goal c) (sym (w .11)) (sym (w .12)) (sweep-row q (s .inside) (omega arith) (w .0 .taken) (w .2 .ensures) (row-gains (q .held-c) (w .4 .ensures)) (row-gains (q .held-p) (w .8 .ensures))))
+          (λ w. subst₂ (Goal c) (sym (w .11)) (sym (w .12)) (sweep-row q (s .inside) (omega arith) (w .0 .taken) (w .2 .ensures) (row-gains (omega arith) (q .held-c) (w .4 .ensures)) (row-gains (omega arith) (q .held-p) (w .8 .ensures))))
           (λ w. subst₂ (Goal c) (sym (w .1)) (sym (w .2)) (sweep-pivot q (w .0 .left)))
           (c .if1 .came),
     )
@@ -94,7 +94,7 @@ same-length-2 : tie.Need-same-length-2 Inv-loop μ-loop
 same-length-2 c = c .before .loop .inv .1 .long-p
 
 returns : tie.Need-returns Inv-loop μ-loop
-returns c = let q = c .before .loop .inv .1 in (q .spans, sweep-all q (omega arith))
+returns c = sweep-all (c .before .loop .inv .1) (omega arith)
 
 pub sweep-spec : {M : Type 1} → statement M
 sweep-spec =

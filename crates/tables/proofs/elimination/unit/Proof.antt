@@ -1,3 +1,8 @@
+use mathlib.Core.Path.{refl}
+use lib.IntN.{pos}
+use Rattle.numbers.proofs.Algebra.RingSolver.{ring, #_, _⊗_, _≐_}
+use Rattle.numbers.proofs.Remainders.Congruence.{cong-of-eq, cong-trans}
+use Rattle.tables.proofs.Reduction.Bits.{odd-one}
 use Rattle.tables.proofs.Reduction.Units.{five-steps}
 use borrow.Author.Needs.{needs}
 use Rattle.tables.proofs.elimination.unit.Statement.{statement}
@@ -21,7 +26,7 @@ better-requires-5 c κs = search needs
 returns : tie.Need-returns
 returns c =
     let s = c .before .before .before .before .before in
-    five-steps (s .pre) (c .before .before .before .before .better .ensures) (c .before .before .before .better2 .ensures) (c .before .before .better3 .ensures) (c .before .better4 .ensures) (c .better5 .ensures)
+    five-steps (s .args .g) 1 (record { quot = pos 1; eqn = refl }) (cong-trans (cong-of-eq (pos 2) (ring 1 (λ g. # 1 ⊗ g ≐ g) tt (pos (s .args .g)))) (odd-one (s .pre))) (c .before .before .before .before .better .ensures) (c .before .before .before .better2 .ensures) (c .before .before .better3 .ensures) (c .before .better4 .ensures) (c .better5 .ensures)
 
 pub unit-spec : {M : Type 1} → statement M
 unit-spec =

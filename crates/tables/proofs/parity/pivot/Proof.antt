@@ -1,12 +1,13 @@
 use mathlib.Core.Path.{_≡_, sym, ap, _∙_}
 use Prim.Native.Nat.{_-_, _≤_}
+use native.Mathlib.Nat.{mod-mod}
 use native.Mathlib.Omega.{arith}
 use lib.IntN.{pos}
 use Rattle.numbers.proofs.Remainders.Congruence.{cong-of-eq}
 use Rattle.tables.specs.Elimination.{None}
 use Rattle.tables.specs.Parity.{bits}
 use Rattle.tables.proofs.Reduction.Stages.{none-more}
-use Rattle.tables.proofs.Reduction.Bits.{bit-one}
+use Rattle.tables.proofs.Reduction.Units.{not-multiple}
 use Rattle.tables.proofs.parity.pivot.Statement.{statement}
 use Rattle.tables.proofs.parity.pivot.Tie as tie
 
@@ -33,7 +34,7 @@ returns c = record {
   from = omega arith;
   upto = omega arith;
   none = c .before .before .before .before .loop .inv .1 .1;
-  one = λ h. cong-of-eq (pos 2) (ap pos (bit-one _ _ (λ e. c .if1 .taken (c .before .bit .ensures ∙ e))));
+  some = λ h. not-multiple (omega arith) (λ e. c .if1 .taken (c .before .bit .ensures ∙ sym (mod-mod _ 2) ∙ e));
 }
 
 add-s : tie.Need-add-s Inv-loop μ-loop
@@ -49,7 +50,7 @@ loop-again c =
 returns-2 : tie.Need-returns-2 Inv-loop μ-loop
 returns-2 c =
     let e : c .before .loop .s ≡ c .before .before .args .n = omega arith in
-    record { from = omega arith; upto = omega arith; none = rw e at (c .before .loop .inv .1 .1); one = λ h. absurd (omega arith) }
+    record { from = omega arith; upto = omega arith; none = rw e at (c .before .loop .inv .1 .1); some = λ h. absurd (omega arith) }
 
 pub pivot-spec : {M : Type 1} → statement M
 pivot-spec =
