@@ -1,22 +1,24 @@
 -- The numbers that verdict and inverse give back, in their order, with their two values.
 use mathlib.Core.Path.{_≡_, refl, sym, ap, subst}
-use mathlib.Core.Logic.{_≢_, inl, inr, ⊎-elim}
-use mathlib.Core.List.{List, [], _∷_}
-use Prim.Native.Nat.{ℕ, _*_, _^_}
+use mathlib.Core.Logic.{_≢_, _⊎_, inl, inr, ⊎-elim}
+use mathlib.Core.List.{List}
+use Prim.Native.Nat.{ℕ, _*_}
 use native.Mathlib.Omega.{arith}
-use native.Mathlib.Decide.{ℕ-discrete, decLe}
-use lib.IntN.{ℤ, natAbs}
+use native.Mathlib.Decide.{ℕ-discrete}
+use lib.IntN.{ℤ}
 use lib.ListN.{length}
-use Rattle.numbers.specs.Limits.{IsOrder, Legal, Lawful}
-use Rattle.numbers.specs.Refusals.{Gives, Lowest}
-use Rattle.numbers.proofs.Answers.Refusals.{gives-lowest, learnt}
+use Rattle.numbers.specs.Limits.{IsOrder, IsNarrow, Legal, Lawful, tableRefusals}
 use Rattle.numbers.specs.Numbers.{IsNeed, IsLifts}
+use Rattle.numbers.specs.Refusals.{Refusals, done, _when_then_, _thereafter_, Gives, Lowest}
+use Rattle.numbers.proofs.Answers.Decisions.{stable}
+use Rattle.numbers.proofs.Answers.Refusals.{Passes, passes-on, refused-stays, from-second, learnt, gives-lowest}
+use Rattle.numbers.proofs.Answers.Tables.{lawful-passes, passes-lawful, same-head}
 use Rattle.tables.specs.Tables.{entries, height, HasWholeInverse}
-use Rattle.lifting.specs.Steps.{Stage}
 use Rattle.tables.proofs.Inverses.TwoSided.{inverse-unique}
-use Rattle.tables.proofs.Checking.Views.{both?, order?}
-use Rattle.verdict.specs.Verdict.{IsNarrow, Narrow, TooWide, answer, outcomeOf, Told, after-0, after-7, after-8, Values, verdictRefusals, VerdictGives, inverseRefusals, InverseGives}
-use Rattle.verdict.specs.Parts.{Kept, NoneNarrow, Written}
+use Rattle.lifting.specs.Steps.{Stage}
+use Rattle.lifting.proofs.Calls.Refusals.{fit}
+use Rattle.verdict.specs.Verdict.{TooWide, IsNarrowInverse, answer, outcomeOf, Told, after-0, after-7, after-8, Values, verdictNumbers, verdictRefusals, VerdictGives, inverseRefusals, InverseGives}
+use Rattle.verdict.specs.Parts.{Leaves, NoneNarrow}
 use Rattle.verdict.specs.declared.Ruling.{Ruling}
 use Rattle.verdict.specs.declared.Ruling.the-variants.{Yes, No, Refused}
 use Rattle.verdict.specs.declared.Outcome.{Outcome}
@@ -51,11 +53,19 @@ zeros-untold v t = let h = v .told t .0 .holds .from in omega arith
 
 -- ---- what verdict's work leaves for inverse
 
-pub unkept : {n k e l : ℕ} {A M : List ℤ} → k ≢ 0 → Kept n A M (answer k e l)
-unkept f = record { stage = λ z. absurd (f z) }
+pub leaves-none : {n X k e l : ℕ} {A M : List ℤ} → k ≢ 0 → Leaves n X A M (answer k e l)
+leaves-none f = record { stage = λ z. absurd (f z) }
 
-pub kept-yes : {n e l : ℕ} {A M : List ℤ} {r : Ruling} → Kept n A M (outcomeOf r) → r ≡ Yes e l → Stage n 32 A M
-kept-yes k q = k .stage (ap (λ r. outcomeOf r .number) q)
+pub leaves-yes : {n X e l : ℕ} {A M : List ℤ} {r : Ruling} → Leaves n X A M (outcomeOf r) → r ≡ Yes e l → Stage n X A M
+leaves-yes k q = k .stage (ap (λ r. outcomeOf r .number) q)
+
+-- ---- the lists: what follows their head
+
+abbrev none : ℕ → List ℤ → Refusals
+none n A = 7 when ¬ HasWholeInverse n (entries n A) then done
+
+abbrev wide : ℕ → List ℤ → Refusals
+wide n A = 8 when TooWide n (entries n A) then done
 
 -- ---- verdict
 
@@ -74,51 +84,46 @@ module _ {n : ℕ} {A : List ℤ} where
       refused 4 (λ z. omega arith) (λ z. omega arith) (λ z. omega arith) (inr (λ g. g o, inr (λ g. g s, inl (f, refl))))
 
 module _ {n : ℕ} {A : List ℤ} (law : Lawful n A) {e l : ℕ} (need : IsNeed n (height A) e) (depth : IsLifts n l) where
+  verdict-number : {k : ℕ} → Gives (none n A) k → Gives (verdictRefusals n A) k
+  verdict-number {k} g = passes-on (tableRefusals n (length A ≢ n * n) A) (none n A) k (lawful-passes (length A ≢ n * n) law (λ f. f (law .size))) g
+
   pub verdict-yes : HasWholeInverse n (entries n A) → VerdictGives n A (answer 0 e l)
-  verdict-yes w = record {
-    number = inr (λ f. f (law .order), inr (λ f. f (law .size), inr (λ f. f (law .legal), inr (λ f. f w, refl))));
-    values = told-values after-0 need depth;
-    whole = λ z. w;
-  }
+  verdict-yes w = record { number = verdict-number (inr (λ f. f w, refl)); values = told-values after-0 need depth; whole = λ z. w }
 
   pub verdict-no : ¬ HasWholeInverse n (entries n A) → VerdictGives n A (answer 7 e l)
-  verdict-no f = record {
-    number = inr (λ f. f (law .order), inr (λ f. f (law .size), inr (λ f. f (law .legal), inl (f, refl))));
-    values = told-values after-7 need depth;
-    whole = λ z. absurd (omega arith);
-  }
+  verdict-no f = record { number = verdict-number (inl (f, refl)); values = told-values after-7 need depth; whole = λ z. absurd (omega arith) }
 
   -- ---- inverse, of a lawful table and a buffer of n² numbers
 
+  inverse-number : (L : List ℤ) {k : ℕ} → length L ≡ n * n → Gives (none n A thereafter wide n A) k → Gives (inverseRefusals n A L) k
+  inverse-number L {k} size g =
+      let P : Type 0 = (length A ≢ n * n) ⊎ (length L ≢ n * n) in
+      passes-on (tableRefusals n P A) (none n A thereafter wide n A) k (lawful-passes P law (fit (law .size) size)) g
+
   module _ {L : List ℤ} (size : length L ≡ n * n) where
     pub inverse-none : ¬ HasWholeInverse n (entries n A) → InverseGives n A L (answer 7 e l) L
-    inverse-none f = record {
-      number = inr (λ f. f (law .order), inr (⊎-elim (λ f. f (law .size)) (λ f. f size), inr (λ f. f (law .legal), inl (f, refl))));
-      values = told-values after-7 need depth;
-      kept = λ z. refl;
-      written = λ z. absurd (omega arith);
-    }
+    inverse-none f = record { number = inverse-number L size (inl (f, refl)); values = told-values after-7 need depth; kept = λ z. refl; written = λ z. absurd (omega arith) }
 
     pub inverse-wide : TooWide n (entries n A) → InverseGives n A L (answer 8 e l) L
     inverse-wide t = record {
-      number = inr (λ f. f (law .order), inr (⊎-elim (λ f. f (law .size)) (λ f. f size), inr (λ f. f (law .legal), inr (λ f. f (record { inverse = t .inverse; right = t .right }), inl (t, refl)))));
+      number = inverse-number L size (inr (λ f. f (record { inverse = t .inverse; right = t .right }), inl (t, refl)));
       values = told-values after-8 need depth;
       kept = λ z. refl;
       written = λ z. absurd (omega arith);
     }
 
     -- a whole inverse is the only one, so where one is narrow none is too wide
-    pub inverse-done : {E : List ℤ} → Written n A E → InverseGives n A L (answer 0 e l) E
+    pub inverse-done : {E : List ℤ} → IsNarrowInverse n (entries n A) E → InverseGives n A L (answer 0 e l) E
     inverse-done {E} w = record {
-      number = inr (λ f. f (law .order), inr (⊎-elim (λ f. f (law .size)) (λ f. f size), inr (λ f. f (law .legal), inr (λ f. f (record { inverse = entries n E; right = w .inverse .right }), inr (not-wide, refl)))));
+      number = inverse-number L size (inr (λ f. f (record { inverse = entries n E; right = w .right }), inr (not-wide, refl)));
       values = told-values after-0 need depth;
       kept = λ g. absurd (g refl);
-      written = λ g. w .inverse;
+      written = λ g. w;
     }
       where
         not-wide : ¬ TooWide n (entries n A)
         not-wide t =
-            t .passes (λ i j a b. subst (λ (z : ℤ). IsNarrow z) (inverse-unique n (entries n A) (entries n E) (t .inverse) (w .inverse .right) (t .right) i j a b) (w .narrow i j a b))
+            t .passes (λ i j a b. subst (λ (z : ℤ). IsNarrow z) (inverse-unique n (entries n A) (entries n E) (t .inverse) (w .right) (t .right) i j a b) (w .narrow i j a b))
 
 -- ---- what inverse itself refuses
 
@@ -136,42 +141,25 @@ module _ {n : ℕ} {A L : List ℤ} where
 
 -- a number that verdict refuses with, inverse refuses with
 as-verdict : (n : ℕ) (A L : List ℤ) {k : ℕ} → length L ≡ n * n → k ≢ 0 → Gives (verdictRefusals n A) k → Gives (inverseRefusals n A L) k
-as-verdict n A L s z (inl g) = inl g
-as-verdict n A L s z (inr (o, inl (f, e))) = inr (o, inl (inl f, e))
-as-verdict n A L s z (inr (o, inr (a, inl g))) = inr (o, inr (⊎-elim a (λ f. f s), inl g))
-as-verdict n A L s z (inr (o, inr (a, inr (p, inl g)))) = inr (o, inr (⊎-elim a (λ f. f s), inr (p, inl g)))
-as-verdict n A L s z (inr (o, inr (a, inr (p, inr (w, e))))) = absurd (z e)
+as-verdict n A L {k} s z g =
+    let P : Type 0 = length A ≢ n * n in
+    let Q : Type 0 = (length A ≢ n * n) ⊎ (length L ≢ n * n) in
+    refused-stays (verdictNumbers n Q A) (wide n A) z (same-head n P Q A (none n A) k (λ p. inl p, ⊎-elim (λ p. p) (λ f. absurd (f s))) g)
 
 inverse-as-verdict : {n : ℕ} {A L : List ℤ} {o : Outcome} → length L ≡ n * n → o .number ≢ 0 → VerdictGives n A o → InverseGives n A L o L
 inverse-as-verdict {n} {A} {L} s z v = record { number = as-verdict n A L s z (v .number); values = v .values; kept = λ f. refl; written = λ e. absurd (z e) }
 
-legal? : (L : List ℤ) → Dec (Legal L)
-legal? [] = yes tt
-legal? (v ∷ L) = both? (decLe (natAbs v) (2 ^ 20)) (legal? L)
-
-stable : {P : Type 0} → Dec P → ¬ ¬ P → P
-stable (yes p) f = p
-stable (no g) f = absurd (f g)
-
--- what a yes has let pass, and a no
-lawful : {n : ℕ} {A : List ℤ} → ¬ ¬ IsOrder n → ¬ (length A ≢ n * n) → ¬ ¬ Legal A → Lawful n A
-lawful {n} {A} o s l = record { order = stable (order? n) o; size = stable (ℕ-discrete (length A) (n * n)) s; legal = stable (legal? A) l }
+-- a table that is not refused is lawful
+lawful : (n : ℕ) (A : List ℤ) → Passes (tableRefusals n (length A ≢ n * n) A) → Lawful n A
+lawful n A = passes-lawful n (length A ≢ n * n) A (stable (ℕ-discrete (length A) (n * n)))
 
 pub passed : (n : ℕ) (A : List ℤ) → Gives (verdictRefusals n A) 0 → Lawful n A
-passed n A g = let k = learnt 0 (verdictRefusals n A) 0 (omega arith) g in lawful (k .0) (k .1 .0) (k .1 .1 .0)
+passed n A g = lawful n A (from-second (tableRefusals n (length A ≢ n * n) A) (none n A) 0 tt g .0)
 
 pub passed-no : (n : ℕ) (A : List ℤ) → Gives (verdictRefusals n A) 7 → Lawful n A × ¬ HasWholeInverse n (entries n A)
-passed-no n A g = let k = learnt 0 (verdictRefusals n A) 7 (omega arith) g in (lawful (k .0) (k .1 .0) (k .1 .1 .0), k .1 .1 .1)
-
--- an inverse that is given is narrow
-not-wide : (n : ℕ) (A L : List ℤ) → Gives (inverseRefusals n A L) 0 → ¬ TooWide n (entries n A)
-not-wide n A L g = learnt 0 (inverseRefusals n A L) 0 (omega arith) g .1 .1 .1 .1 .0
-
-pub inverse-narrow : {n : ℕ} {A L : List ℤ} {o : Outcome} {E : List ℤ} → InverseGives n A L o E → o .number ≡ 0 → Narrow n (entries n E)
-inverse-narrow {n} {A} {L} {o} {E} p z i j h k =
-    stable (decLe (natAbs (entries n E i j)) (2 ^ 37)) λ f.
-    not-wide n A L (subst (Gives (inverseRefusals n A L)) z (p .number))
-    (record { inverse = entries n E; right = p .written z .right; passes = λ g. f (g i j h k) })
+passed-no n A g =
+    let p = from-second (tableRefusals n (length A ≢ n * n) A) (none n A) 7 tt g in
+    (lawful n A (p .0), learnt (none n A) 7 tt (p .1))
 
 -- what inverse gives after each case of the verdict's answer
 module _ {n : ℕ} {A : List ℤ} {r : Ruling} (says : VerdictGives n A (outcomeOf r)) {L : List ℤ} (size : length L ≡ n * n) where
@@ -190,7 +178,7 @@ module _ {n : ℕ} {A : List ℤ} {r : Ruling} (says : VerdictGives n A (outcome
       let p = v .values .told after-0 in
       inverse-wide (passed n A (v .number)) (p .0) (p .1) size (record { inverse = w .inverse; right = w .right; passes = f .none (w .inverse) (w .right) })
 
-  pub after-done : {e l : ℕ} {E : List ℤ} → r ≡ Yes e l → Written n A E → InverseGives n A L (answer 0 e l) E
+  pub after-done : {e l : ℕ} {E : List ℤ} → r ≡ Yes e l → IsNarrowInverse n (entries n A) E → InverseGives n A L (answer 0 e l) E
   after-done {e} {l} q w =
       let v : VerdictGives n A (answer 0 e l) = subst (λ (r : Ruling). VerdictGives n A (outcomeOf r)) q says in
       let p = v .values .told after-0 in

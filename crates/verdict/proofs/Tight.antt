@@ -9,11 +9,12 @@ use native.Mathlib.Nat.{not-suc-le-zero, le-of-suc-le-suc}
 use native.Mathlib.Omega.{arith}
 use lib.IntN.{ℤ, pos}
 use lib.ListN.{length, getD}
+use Rattle.numbers.specs.Limits.{All}
 use Rattle.numbers.specs.Refusals.{Gives}
 use Rattle.lifting.specs.Lifting.{LiftGives}
 use Rattle.lifting.proofs.Expansions.Unique.{lift-unique}
 use Rattle.verdict.specs.Verdict.{RuleYes, answer, outcomeOf, Told, after-0, after-7, verdictRefusals, VerdictGives, InverseGives}
-use Rattle.verdict.specs.Starred.{minus, Case, lifts-are, Claim, Every, starred, thin}
+use Rattle.verdict.specs.Starred.{minus, Case, lifts-are, Claim, starred, thin}
 use Rattle.verdict.specs.declared.Ruling.{Ruling}
 use Rattle.verdict.specs.declared.Ruling.the-variants.{Yes, No, Refused}
 use Rattle.verdict.specs.declared.Outcome.{Outcome}
@@ -44,7 +45,7 @@ refused-by {n} {k} {A} v = go (v .number)
 -- ---- what is left on some starred tables
 
 -- line i of the starred table, from 0
-line-of : (i : ℕ) (cs : List Case) → Every Claim cs → i < length cs → Claim (getD cs i (lifts-are 1 0))
+line-of : (i : ℕ) (cs : List Case) → All Claim cs → i < length cs → Claim (getD cs i (lifts-are 1 0))
 line-of i [] e h = absurd (not-suc-le-zero h)
 line-of zero (c ∷ cs) e h = e .0
 line-of (suc i) (c ∷ cs) e h = line-of i cs (e .1) (le-of-suc-le-suc h)

@@ -4,7 +4,6 @@
 --   Answers n A o E      what the inverse call gives whatever the lent buffer L held: o, and E L in the buffer
 --   RuledYes n e k A E   what holds after a yes: the rule, the expansion E of k lifts at e, and the verdict
 --   Claim c              the claim of a line, about the rules and the calls' statements
---   Every P cs           P holds of every line
 --   thin, thick          the 3 by 3 table of document 01, and the same with 262145
 --   thin-expansion, thick-expansion   their expansions (corner: what follows B_0)
 --   starred              the table of cases
@@ -56,10 +55,6 @@ Claim (lift-gives-6 n A v c) =
 Claim (inverse-is n e k A E B) = RuledYes n e k A E × Answers n A (answer 0 e k) (λ L. B)
 Claim (too-wide n e k A E B) = RuledYes n e k A E × Answers n A (answer 8 e k) (λ L. L)
 Claim (verdict-no-with n e k A m v c) = (¬ RuleYes n A) × (VerdictGives n A (answer 7 e k) × Answers n A (answer 7 e k) (λ L. L))
-
-abbrev pub Every : (Case → Type 0) → List Case → Type 0
-Every P [] = Unit {0}
-Every P (c ∷ cs) = P c × Every P cs
 
 -- the 3 by 3 table of document 01, and the same with 262145
 abbrev pub thin : List ℤ

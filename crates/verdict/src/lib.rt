@@ -1,24 +1,28 @@
 // Verdict and inverse.
 ghost use mathlib.Core.Path.{_≡_};
-ghost use Prim.Native.Nat.{_*_, _^_, _<_};
-ghost use lib.ListN.{length};
-ghost use Rattle.tables.specs.Tables.{entries, block, HasWholeInverse};
-ghost use Rattle.numbers.specs.Limits.{IsOrder, Lawful};
+ghost use Prim.Native.Nat.{_*_, _^_};
+ghost use lib.ListN.{length, take};
+ghost use Rattle.tables.specs.Tables.{entries, block};
+ghost use Rattle.numbers.specs.Limits.{IsOrder};
 ghost use Rattle.numbers.specs.Says.{Says, Tells};
 ghost use Rattle.numbers.specs.Numbers.{IsLifts};
 ghost use Rattle.lifting.specs.Lifting.{IsStart};
-ghost use Rattle.lifting.specs.Steps.{Stage};
-ghost use Rattle.verdict.specs.Verdict.{Narrow, outcomeOf, VerdictGives, InverseGives};
-ghost use Rattle.verdict.specs.Parts.{Fails, Kept, NoneNarrow, Summed, Written, Wide};
-
-// The width: 2^37.
-const WIDTH: u64 = 137438953472;
+ghost use Rattle.lifting.specs.Steps.{Setting, Stage};
+ghost use Rattle.verdict.specs.Verdict.{Narrow, IsNarrowInverse, outcomeOf, VerdictGives, InverseGives};
+ghost use Rattle.verdict.specs.Parts.{Found, Fails, Leaves, NoneNarrow, Covers, Summed, Standing};
 
 // The verdict: yes or no, each with exponent and lifts, or refused by a number.
 pub enum Ruling {
     Yes { exponent: u32, lifts: u32 },
     No { exponent: u32, lifts: u32 },
     Refused(u32),
+}
+
+// What the work finds: no inverse modulo 2; one modulo 2, but none whole; or a whole one.
+enum Finding {
+    NoneModulo2,
+    NoneWhole,
+    Whole,
 }
 
 // An answer as document 01 gives it: the number, and the exponent and the lifts beside it.
@@ -51,43 +55,46 @@ pub fn outcome_of(v: Ruling) -> Outcome
     }
 }
 
-// Whether A has a whole inverse, by at most k lifts at the exponent 32, which is legal for every table: a residue that vanishes says yes at once.
+// What A has, by at most k lifts at the exponent e: a residue that vanishes says at once that there is a whole inverse.
 // B_0 is in block 0 of the buffer, and stays there; the residues are in blocks 1 and 2 by turns, the digits in block 3.
-fn whole(n: usize, k: u32, a: &[i64], buf: &mut [i64]) -> bool
-    requires { ⌜ Lawful n (now a) ⌝ }
+fn find(n: usize, e: u32, k: u32, a: &[i64], buf: &mut [i64]) -> Finding
+    requires { ⌜ Setting n (2 ^ e) (now a) ⌝ }
     requires { ⌜ IsLifts n k ⌝ }
     requires { ⌜ length (now buf) ≡ 4096 ⌝ }
-    ensures { λ r. ⌜ Says (HasWholeInverse n (entries n (now (a .entry))) × Stage n 32 (now (a .entry)) (now (buf .exit))) (¬ HasWholeInverse n (entries n (now (a .entry)))) r ⌝ }
+    ensures { λ r. ⌜ Found n (2 ^ e) (now (a .entry)) (now (buf .exit)) r ⌝ }
 {
     if !tables::parity::has_inverse(n, a) {
-        return false;
+        return Finding::NoneModulo2;
     }
-    lifting::start(n, 32, a, buf);
-    if fails(n, a, buf) {
-        return false;
+    lifting::start(n, e, a, buf);
+    if fails(n, e, a, buf) {
+        return Finding::NoneWhole;
     }
     let mut r: usize = 1;
     let mut s: usize = 2;
     let mut t: u32 = 0;
     while t < k {
         if tables::blocks::vanishes(n, buf, r) {
-            return true;
+            return Finding::Whole;
         }
-        lifting::step(n, 32, a, buf, r, 3, s);
+        lifting::step(n, e, a, buf, r, 3, s);
         let q = r;
         r = s;
         s = q;
         t += 1;
     }
-    tables::blocks::vanishes(n, buf, r)
+    if tables::blocks::vanishes(n, buf, r) {
+        return Finding::Whole;
+    }
+    Finding::NoneWhole
 }
 
-// Whether the first column alone tells that A has no whole inverse, from B_0 and R_0 at the exponent 32 in blocks 0 and 1: after n digits, each the
+// Whether the first column alone tells that A has no whole inverse, from B_0 and R_0 at the exponent e in blocks 0 and 1: after n digits, each the
 // work of two rows of products, its residue is not zero. Blocks 2 and 3 are for work.
-fn fails(n: usize, a: &[i64], buf: &mut [i64]) -> bool
-    requires { ⌜ Lawful n (now a) ⌝ }
+fn fails(n: usize, e: u32, a: &[i64], buf: &mut [i64]) -> bool
+    requires { ⌜ Setting n (2 ^ e) (now a) ⌝ }
     requires { ⌜ length (now buf) ≡ 4096 ⌝ }
-    requires { ⌜ IsStart n (2 ^ 32) (entries n (now a)) (block n (now buf) 0) (block n (now buf) 1) ⌝ }
+    requires { ⌜ IsStart n (2 ^ e) (entries n (now a)) (block n (now buf) 0) (block n (now buf) 1) ⌝ }
     ensures { λ r. ⌜ Fails n (now (a .entry)) (now (buf .entry)) r (now (buf .exit)) ⌝ }
 {
     tables::columns::copy(n, buf, 1, 2);
@@ -96,7 +103,7 @@ fn fails(n: usize, a: &[i64], buf: &mut [i64]) -> bool
         if tables::columns::vanishes(n, buf, 2) {
             return false;
         }
-        lifting::column_digit(n, 32, a, buf, 2, 3);
+        lifting::column_digit(n, e, a, buf, 2, 3);
         t += 1;
     }
     if tables::columns::vanishes(n, buf, 2) {
@@ -108,7 +115,7 @@ fn fails(n: usize, a: &[i64], buf: &mut [i64]) -> bool
 // The ruling, with a buffer for the work; after a yes B_0 at the exponent 32 is in block 0.
 fn decide(n: usize, a: &[i64], buf: &mut [i64]) -> Ruling
     requires { ⌜ length (now buf) ≡ 4096 ⌝ }
-    ensures { λ r. ⌜ VerdictGives n (now (a .entry)) (outcomeOf r) × Kept n (now (a .entry)) (now (buf .exit)) (outcomeOf r) ⌝ }
+    ensures { λ r. ⌜ VerdictGives n (now (a .entry)) (outcomeOf r) × Leaves n (2 ^ 32) (now (a .entry)) (now (buf .exit)) (outcomeOf r) ⌝ }
 {
     if !tables::checks::is_order(n) {
         return Ruling::Refused(1);
@@ -121,16 +128,19 @@ fn decide(n: usize, a: &[i64], buf: &mut [i64]) -> Ruling
     }
     let e = numbers::need(n as u64, tables::checks::top(a));
     let k = numbers::lifts(n as u64);
-    if whole(n, k, a, buf) {
-        Ruling::Yes {
+    match find(n, 32, k, a, buf) {
+        Finding::Whole => Ruling::Yes {
             exponent: e,
             lifts: k,
-        }
-    } else {
-        Ruling::No {
+        },
+        Finding::NoneModulo2 => Ruling::No {
             exponent: e,
             lifts: k,
-        }
+        },
+        Finding::NoneWhole => Ruling::No {
+            exponent: e,
+            lifts: k,
+        },
     }
 }
 
@@ -142,24 +152,25 @@ pub fn verdict(n: usize, table: &[i64]) -> Ruling
     decide(n, table, &mut buf)
 }
 
-// From B_0 at the exponent 32 in block 0: the whole inverse there, by its two digits B_0 + 2^32·D; or false, where no whole inverse is narrow.
-fn digits(n: usize, a: &[i64], buf: &mut [i64]) -> bool
-    requires { ⌜ Stage n 32 (now a) (now buf) ⌝ }
+// From B_0 at the exponent e in block 0: the whole inverse there, by its two digits B_0 + 2^e·D; or false, where no whole inverse is narrow.
+fn digits(n: usize, e: u32, a: &[i64], buf: &mut [i64]) -> bool
+    requires { ⌜ Stage n (2 ^ e) (now a) (now buf) ⌝ }
+    requires { ⌜ Covers (2 ^ e) 2 ⌝ }
     requires { ⌜ length (now buf) ≡ 4096 ⌝ }
     ensures { λ r. ⌜ Says (Summed n (now (a .entry)) (now (buf .exit))) (NoneNarrow n (now (a .entry))) r ⌝ }
 {
-    lifting::base(n, 32, a, buf);
+    lifting::base(n, e, a, buf);
     if tables::blocks::vanishes(n, buf, 1) {
         return true;
     }
-    lifting::digit(n, 32, a, buf, 1, 2);
+    lifting::digit(n, e, a, buf, 1, 2);
     if !tables::blocks::vanishes(n, buf, 1) {
         return false;
     }
-    if !tables::blocks::within(n, buf, 2, 64) {
+    if !tables::blocks::within(n, buf, 2, 8388608) {
         return false;
     }
-    tables::blocks::extend(n, 32, buf, 0, 2);
+    tables::blocks::extend(n, e, buf, 0, 2);
     true
 }
 
@@ -168,24 +179,54 @@ fn narrow(n: usize, buf: &[i64]) -> bool
     requires { ⌜ IsOrder n × (length (now buf) ≡ 4096) ⌝ }
     ensures { λ r. ⌜ Tells (Narrow n (block n (now (buf .entry)) 0)) r ⌝ }
 {
-    tables::blocks::within(n, buf, 0, WIDTH)
+    tables::blocks::within(n, buf, 0, numbers::WIDTH)
 }
 
-// The whole inverse into out, where it is narrow.
-fn invert(n: usize, a: &[i64], out: &mut [i64], buf: &mut [i64]) -> bool
-    requires { ⌜ Stage n 32 (now a) (now buf) ⌝ }
-    requires { ⌜ length (now out) ≡ n * n ⌝ }
+// From B_0 at the exponent e in block 0: the whole inverse there, where it is narrow.
+fn invert(n: usize, e: u32, a: &[i64], buf: &mut [i64]) -> bool
+    requires { ⌜ Stage n (2 ^ e) (now a) (now buf) ⌝ }
+    requires { ⌜ Covers (2 ^ e) 2 ⌝ }
     requires { ⌜ length (now buf) ≡ 4096 ⌝ }
-    ensures { λ done. ⌜ Says (Written n (now (a .entry)) (now (out .exit))) (Wide n (now (a .entry)) (now (out .entry)) (now (out .exit))) done ⌝ }
+    ensures { λ r. ⌜ Says (IsNarrowInverse n (entries n (now (a .entry))) (take (n * n) (now (buf .exit)))) (NoneNarrow n (now (a .entry))) r ⌝ }
 {
-    if !digits(n, a, buf) {
+    if !digits(n, e, a, buf) {
         return false;
     }
-    if !narrow(n, buf) {
-        return false;
+    narrow(n, buf)
+}
+
+// The inverse call in a lent buffer: after 0 the table B with A·B = I is in block 0.
+pub fn inverse_in(n: usize, table: &[i64], buf: &mut [i64]) -> Outcome
+    requires { ⌜ IsOrder n × (length (now buf) ≡ 4096) ⌝ }
+    ensures { λ r. ⌜ Standing n (now (table .entry)) r (now (buf .exit)) ⌝ }
+{
+    match decide(n, table, buf) {
+        Ruling::Refused(k) => Outcome {
+            number: k,
+            exponent: 0,
+            lifts: 0,
+        },
+        Ruling::No { exponent, lifts } => Outcome {
+            number: 7,
+            exponent,
+            lifts,
+        },
+        Ruling::Yes { exponent, lifts } => {
+            if invert(n, 32, table, buf) {
+                Outcome {
+                    number: 0,
+                    exponent,
+                    lifts,
+                }
+            } else {
+                Outcome {
+                    number: 8,
+                    exponent,
+                    lifts,
+                }
+            }
+        }
     }
-    tables::blocks::copy(n * n, buf, out);
-    true
 }
 
 // The table B with A·B = I, into out.
@@ -207,31 +248,10 @@ pub fn inverse(n: usize, table: &[i64], out: &mut [i64]) -> Outcome
         };
     }
     let mut buf = [0i64; 4096];
-    match decide(n, table, &mut buf) {
-        Ruling::Refused(k) => Outcome {
-            number: k,
-            exponent: 0,
-            lifts: 0,
-        },
-        Ruling::No { exponent, lifts } => Outcome {
-            number: 7,
-            exponent,
-            lifts,
-        },
-        Ruling::Yes { exponent, lifts } => {
-            if invert(n, table, out, &mut buf) {
-                Outcome {
-                    number: 0,
-                    exponent,
-                    lifts,
-                }
-            } else {
-                Outcome {
-                    number: 8,
-                    exponent,
-                    lifts,
-                }
-            }
-        }
+    let answer = inverse_in(n, table, &mut buf);
+    if answer.number != 0 {
+        return answer;
     }
+    tables::blocks::copy(n * n, &buf, out);
+    answer
 }

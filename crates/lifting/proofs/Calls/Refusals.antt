@@ -36,7 +36,7 @@ few : {s : ℕ} → s ≤ 4 → ¬ (4 < s)
 few h l = omega arith
 
 -- both buffers have the required length
-fit : {a b c d : ℕ} → a ≡ c → b ≡ d → ¬ ((a ≢ c) ⊎ (b ≢ d))
+pub fit : {a b c d : ℕ} → a ≡ c → b ≡ d → ¬ ((a ≢ c) ⊎ (b ≢ d))
 fit p q = ⊎-elim (λ f. f p) (λ f. f q)
 
 -- no number from 1 to 3 applies

@@ -155,9 +155,9 @@ module _ {n X : ℕ} {A L : List ℤ} (q : ToBase n X A L) {L₁ : List ℤ} (p�
       rest = λ b l. ≈-trans (p₃ .rest b (λ z. omega arith)) (≈-trans (p₂ .rest b (λ z. omega arith)) (p₁ .rest b (λ z. omega arith)));
     }
 
--- ---- from nothing: an inverse modulo 2^32 is one modulo X, which divides it
+-- ---- from nothing: an inverse modulo Y is one modulo X, which divides Y
 
-module _ {n p X : ℕ} {A L : List ℤ} (q : ToStart n p X A L) {L₁ : List ℤ} (p₁ : Inverted n (entries n A) 0 L L₁) (divides : Cong (pos X) (pos (2 ^ 32)) (pos 0)) where
+module _ {n p X Y : ℕ} {A L : List ℤ} (q : ToStart n p X A L) {L₁ : List ℤ} (p₁ : Inverted n Y (entries n A) 0 L L₁) (divides : Cong (pos X) (pos Y) (pos 0)) where
   pub start-2 : ToBase n X A L₁
   start-2 = record {
     setting = q .setting;

@@ -30,7 +30,15 @@ matching-unique (i when P then rs) (l when Q then ss) a (inl p) (inr q) = absurd
 matching-unique (i when P then rs) (l when Q then ss) a (inr p) (inl q) = absurd (p .0 (a .1 .0 .1 (q .0)))
 matching-unique (i when P then rs) (l when Q then ss) a (inr p) (inr q) = matching-unique rs ss (a .1 .1) (p .1) (q .1)
 
-matching-itself : (rs : Refusals) → Matching rs rs
+-- and what the one gives, the other does
+pub gives-same : (rs ss : Refusals) (k : ℕ) → Matching rs ss → Gives rs k → Gives ss k
+gives-same done done k a g = g
+gives-same done (l when Q then ss) k a g = absurd a
+gives-same (i when P then rs) done k a g = absurd a
+gives-same (i when P then rs) (l when Q then ss) k a (inl g) = inl (a .1 .0 .0 (g .0), g .1 ∙ a .0)
+gives-same (i when P then rs) (l when Q then ss) k a (inr g) = inr (λ q. g .0 (a .1 .0 .1 q), gives-same rs ss k (a .1 .1) (g .1))
+
+pub matching-itself : (rs : Refusals) → Matching rs rs
 matching-itself done = tt
 matching-itself (i when P then rs) = (refl, ((λ p. p, λ p. p), matching-itself rs))
 

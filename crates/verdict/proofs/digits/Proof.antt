@@ -1,5 +1,5 @@
-use Rattle.verdict.proofs.Width.{first-summed, digit-asks, rest-wide, high-wide, extend-asks, summed}
-use Rattle.lifting.proofs.Calls.Holding.{in-buffer, to-base}
+use Rattle.verdict.proofs.Width.{first-summed, digit-asks, two-wide, high-wide, extend-asks, summed}
+use Rattle.verdict.proofs.Buffer.{in-buffer, to-base}
 use Rattle.numbers.proofs.Answers.Says.{say-yes, say-no}
 use borrow.Author.Tests.{not-true, not-false}
 use native.Mathlib.Omega.{arith}
@@ -15,13 +15,13 @@ use Rattle.verdict.proofs.digits.Statement.{statement}
 use Rattle.verdict.proofs.digits.Tie as tie
 
 base-requires : tie.Need-base-requires
-base-requires c κs = to-base (c .before .pre .0) (c .before .pre .1)
+base-requires c κs = to-base (c .before .pre .0) (c .before .pre .1 .1)
 
 vanishes-requires : tie.Need-vanishes-requires
 vanishes-requires c κs =
     let s = c .before .before .before .before in
     let b = c .before .before in
-    (s .pre .0 .setting .lawful .order, in-buffer 1 (s .pre .0 .setting .lawful .order .upto) (omega arith) (b .base .ensures .long ∙ s .pre .1))
+    (s .pre .0 .setting .lawful .order, in-buffer 1 (s .pre .0 .setting .lawful .order .upto) (omega arith) (b .base .ensures .long ∙ s .pre .1 .1))
 
 same-length : tie.Need-same-length
 same-length c = search needs
@@ -30,13 +30,13 @@ returns : tie.Need-returns
 returns c =
     let s = c .before .before .before .before .before .before in
     let b = c .before .before .before .before in
-    say-yes (first-summed (s .pre .0 .setting .lawful) (b .base .ensures .start) (c .before .vanishes .ensures .yes (c .if1 .taken)))
+    say-yes (first-summed (s .pre .0 .setting) (b .base .ensures .start) (c .before .vanishes .ensures .yes (c .if1 .taken)))
 
 digit-requires : tie.Need-digit-requires
 digit-requires c κs =
     let s = c .before .before .before .before .before .before .before in
     let b = c .before .before .before .before .before in
-    digit-asks (s .pre .0 .setting .lawful) (b .base .ensures .start) (b .base .ensures .long ∙ s .pre .1)
+    digit-asks (s .pre .0 .setting) (b .base .ensures .start) (b .base .ensures .long ∙ s .pre .1 .1)
 
 -- after the digit: the buffer, where B_0 and R_0 were made, and the entry
 abbrev left : tie.After-digit → List ℤ
@@ -49,7 +49,7 @@ abbrev from : tie.After-digit → tie.Start
 from d = based d .before .before
 
 long : (d : tie.After-digit) → length (left d) ≡ 4096
-long d = d .digit .ensures .long ∙ based d .base .ensures .long ∙ from d .pre .1
+long d = d .digit .ensures .long ∙ based d .base .ensures .long ∙ from d .pre .1 .1
 
 stands : (d : tie.After-digit) (b : ℕ) → b ≤ 3 → let n = from d .args .n in IsOrder n × Has n (left d) b
 stands d b h =
@@ -65,7 +65,7 @@ same-length-2 c = search needs
 returns-2 : tie.Need-returns-2
 returns-2 c =
     let d = c .before .before .before .before in
-    say-no (rest-wide _ (based d .base .ensures .start) (d .digit .ensures .step) (c .before .vanishes2 .ensures .no (not-true _ (c .if2 .taken))))
+    say-no (two-wide (from d .pre .0 .setting) (based d .base .ensures .start) (d .digit .ensures .step) (from d .pre .1 .0) (c .before .vanishes2 .ensures .no (not-true _ (c .if2 .taken))))
 
 within-requires : tie.Need-within-requires
 within-requires c κs = stands (c .before .before .before .before .before) 2 (omega arith)
@@ -77,12 +77,12 @@ returns-3 : tie.Need-returns-3
 returns-3 c =
     let v = c .before .before .before in
     let d = v .before .before .before .before in
-    say-no (high-wide _ (based d .base .ensures .start) (d .digit .ensures .step) (v .before .vanishes2 .ensures .yes (not-false _ (v .if2 .left))) (c .before .within .ensures .no (not-true _ (c .if3 .taken))))
+    say-no (high-wide (from d .pre .0 .setting) (based d .base .ensures .start) (d .digit .ensures .step) (v .before .vanishes2 .ensures .yes (not-false _ (v .if2 .left))) (c .before .within .ensures .no (not-true _ (c .if3 .taken))))
 
 extend-requires : tie.Need-extend-requires
 extend-requires c κs =
     let d = c .before .before .before .before .before .before .before .before in
-    extend-asks (based d .base .ensures .start) (d .digit .ensures) (stands d 2 (omega arith) .0) (long d) (c .before .before .within .ensures .yes (not-false _ (c .before .if3 .left)))
+    extend-asks (from d .pre .0 .setting) (based d .base .ensures .start) (d .digit .ensures) (long d) (c .before .before .within .ensures .yes (not-false _ (c .before .if3 .left)))
 
 same-length-4 : tie.Need-same-length-4
 same-length-4 c = search needs
@@ -91,7 +91,7 @@ returns-4 : tie.Need-returns-4
 returns-4 c =
     let v = c .before .before .before .before .before .before in
     let d = v .before .before .before .before in
-    say-yes (summed (based d .base .ensures .start) (d .digit .ensures) (v .before .vanishes2 .ensures .yes (not-false _ (v .if2 .left))) (c .before .extend .ensures))
+    say-yes (summed (from d .pre .0 .setting) (based d .base .ensures .start) (d .digit .ensures) (v .before .vanishes2 .ensures .yes (not-false _ (v .if2 .left))) (c .before .extend .ensures))
 
 pub digits-spec : {M : Type 1} → statement M
 digits-spec =

@@ -1,5 +1,5 @@
 use Rattle.verdict.proofs.Width.{narrow-low, low-narrow}
-use Rattle.lifting.proofs.Calls.Holding.{in-buffer}
+use Rattle.verdict.proofs.Buffer.{in-buffer}
 use Rattle.numbers.proofs.Answers.Says.{say-map}
 use native.Mathlib.Omega.{arith}
 use Rattle.verdict.proofs.narrow.Statement.{statement}
