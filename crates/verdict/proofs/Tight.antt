@@ -12,7 +12,11 @@ use lib.ListN.{length, getD}
 use Rattle.numbers.specs.Limits.{All}
 use Rattle.numbers.specs.Refusals.{Gives}
 use Rattle.lifting.specs.Lifting.{LiftGives}
+use Rattle.lifting.specs.Steps.{Ready}
 use Rattle.lifting.proofs.Expansions.Unique.{lift-unique}
+use Rattle.lifting.proofs.Calls.Refusals.{lift-done}
+use Rattle.numbers.proofs.Counting.Search.{enough-sound}
+use Rattle.tables.proofs.Checking.Lawful.{lawful-sound}
 use Rattle.verdict.specs.Verdict.{RuleYes, answer, outcomeOf, Told, after-0, after-7, verdictRefusals, VerdictGives, InverseGives}
 use Rattle.verdict.specs.Starred.{minus, Case, lifts-are, Claim, starred, thin}
 use Rattle.verdict.specs.declared.Ruling.{Ruling}
@@ -58,6 +62,14 @@ pub lift-of-3 : {L E : List ℤ} {k : ℕ} → length L ≡ 4 → LiftGives 1 1 
     → (k ≡ 0) × (E ≡ minus 5461 ∷ pos 1 ∷ minus 5461 ∷ pos 1 ∷ [])
 unfolding starred
 lift-of-3 {L} z p = lift-unique p (line 12 (omega arith) L z)
+
+-- [-1] at e = 14: with remainders from 0 to X - 1, B_0 would be 16383
+pub lift-of-minus-1 : {L E : List ℤ} {k : ℕ} → length L ≡ 2 → LiftGives 1 0 14 (minus 1 ∷ []) L k E → (k ≡ 0) × (E ≡ minus 1 ∷ pos 0 ∷ [])
+unfolding starred
+lift-of-minus-1 {L} z p = lift-unique p (lift-done ready (minus 1 ∷ pos 0 ∷ []) (line 11 (omega arith) .0 .expansion))
+  where
+    ready : Ready 1 0 14 (minus 1 ∷ []) (length L)
+    ready = record { lawful = lawful-sound 1 (minus 1 ∷ []) tt; lifts = omega arith; enough = enough-sound 1 1 14 tt; top = omega arith; room = z }
 
 pub verdict-of-1 : (r : Ruling) → VerdictGives 1 (pos 1 ∷ []) (outcomeOf r) → r ≡ Yes 14 0
 unfolding starred
