@@ -18,6 +18,10 @@ BELIEVED = [
 ]
 MOST_BELIEVED = 450
 
+# How docs/RULES.md cites: names in backticks, and in brackets the file below crates/ that defines them.
+FILE = r"\w+/(?:specs|proofs|src)/[\w/+]+\.(?:antt|rt)"
+CITATION = rf"(`[^`\s]+`(?:, `[^`\s]+`)*) \(({FILE})\)"
+
 
 def lines(path):
     """The lines of a file without comments, imports and blank lines."""
@@ -45,15 +49,55 @@ def no_shortcut():
     return f"{len(list(CRATES.rglob('*.antt')))} files"
 
 
+def definitions(path):
+    """The names that a file of definitions defines."""
+    return re.findall(r"^(?:abbrev |unfoldable )?pub (?:record |data )?(?!use )([^\s:({]+)", path.read_text(encoding="utf8"), re.M)
+
+
 def every_definition_file_opens_with_its_names():
     files = [p for p in CRATES.rglob("specs/*.antt") if p.name != "Lib.antt"]
     for path in files:
-        text = path.read_text(encoding="utf8")
-        opening = re.match(r"(?:--.*\n)*", text).group()
-        names = re.findall(r"^(?:abbrev |unfoldable )?pub (?:record |data )?(?!use )([^\s:({]+)", text, re.M)
-        absent = [n for n in names if not all(part in opening for part in n.split("_"))]
+        opening = re.match(r"(?:--.*\n)*", path.read_text(encoding="utf8")).group()
+        absent = [n for n in definitions(path) if not all(part in opening for part in n.split("_"))]
         assert opening and not absent, f"{path}: {absent}"
     return f"{len(files)} files"
+
+
+def citations():
+    """The names that docs/RULES.md cites, each with its file. No file may stand there in another form, or its names would not be looked up."""
+    text = " ".join((ROOT / "docs" / "RULES.md").read_text(encoding="utf8").split())
+    other = re.findall(FILE, re.sub(CITATION, "", text))
+    assert not other, f"no citations: {other}"
+    return [(name, file) for names, file in re.findall(CITATION, text) for name in names.replace("`", "").split(", ")]
+
+
+def defines(path, name):
+    """Whether a file defines a name; R.f is the field or case f of R."""
+    if not path.exists():
+        return False
+    text = path.read_text(encoding="utf8")
+    if path.suffix == ".rt":
+        return re.search(rf"^ *(?:pub )?(?:fn|const|struct|enum) {re.escape(name)}\b", text, re.M)
+    owner, _, part = map(re.escape, name.partition("."))
+    indent = "" if "/specs/" in str(path) else " *"  # a theorem may stand in a module; an indented name in specs/ is a field
+    found = re.search(rf"^{indent}(?:abbrev |unfoldable )?(?:pub )?(?:(?:record|data) {owner}(?!\S)|{owner} :).*\n((?: .*\n)*)", text, re.M)
+    return found and (not part or re.search(rf"^ +(?:pub )?{part} :", found.group(1), re.M))
+
+
+def the_rules_cite_what_is_defined():
+    cited = citations()
+    absent = [f"{name} ({file})" for name, file in cited if not defines(CRATES / file, name)]
+    assert cited and not absent, absent
+    return f"{len(cited)} citations"
+
+
+def the_rules_cite_every_definition_to_believe():
+    """So the page is whole: what a public promise rests on is said there in words."""
+    cited = {(file, name.partition(".")[0]) for name, file in citations()}
+    believed = [(file, name) for file in BELIEVED for name in definitions(CRATES / file)]
+    absent = [f"{name} ({file})" for file, name in believed if (file, name) not in cited]
+    assert not absent, absent
+    return f"{len(believed)} definitions"
 
 
 def wrong_builds():
@@ -117,6 +161,7 @@ def the_header_has_the_version_of_the_changelog():
 def checks(lib):
     return [
         layout, definitions_to_believe, no_shortcut, every_definition_file_opens_with_its_names,
+        the_rules_cite_what_is_defined, the_rules_cite_every_definition_to_believe,
         wrong_builds_are_refused_for_a_false_fact, every_wrong_build_is_named_in_the_calls, public_calls_require_nothing,
         the_header_has_the_version_of_the_changelog,
     ]
