@@ -83,7 +83,8 @@ fn find(n: usize, e: u32, k: u32, a: &[i64], buf: &mut [i64]) -> Finding
         s = q;
         t += 1;
     }
-    if tables::blocks::vanishes(n, buf, r) {
+    let gone = tables::blocks::vanishes(n, buf, r);
+    if gone {
         return Finding::Whole;
     }
     Finding::NoneWhole
