@@ -1,4 +1,4 @@
--- What the kernels on the blocks of a buffer ask. They work modulo any X, or divide by it; the code knows powers of 2.
+-- What the kernels on the blocks of a buffer ask, for any X that they divide or reduce by: that it is a power of 2 is said by the code alone.
 --   IsModulus X           X is from 2 to 2^32
 --   Exact n A B           every sum on the way to an entry of A·B stays below 2^62
 --   ExactAt n A B i j     every sum on the way to its entry (i, j) stays below 2^62

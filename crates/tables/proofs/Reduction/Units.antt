@@ -1,5 +1,5 @@
--- Numbers modulo X: the test for a multiple, a residue that gains a product, as the machine does them, and the inverse of a unit. Where 1 - h g is y t
--- modulo X, 1 - h (2 - g h) g is its square: so a few steps from an inverse modulo a base b lead to one modulo every X that divides a power of b.
+-- Numbers modulo X: the test for a multiple and a residue that gains a product, as the machine does them, and the inverse of a unit. Where 1 - h g is a
+-- multiple of b^j, 1 - h (2 - g h) g is its square and one of b^2j: so five steps lead from an inverse modulo b to one modulo every divisor of b^32.
 use mathlib.Core.Path.{_≡_, sym, ap, _∙_}
 use mathlib.Core.Logic.{_≢_}
 use Prim.Native.Nat.{ℕ, _+_, _-_, _*_, _%_, _^_, _<_}
