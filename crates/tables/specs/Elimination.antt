@@ -1,7 +1,7 @@
 -- The vocabulary of the elimination's inner contracts: a reader of the public calls can skip it. Two tables C and P, which begin as I and A, undergo
 -- the same column operations modulo m until P is I. Any machine form of a table serves: it enters only by the table that it stands for.
---   Stepped x n d s a f C C′      modulo x, column d becomes a times itself and f times column s
---   Kept n m A C P                what such an operation keeps: P = A·C, and a table that kills P kills A
+--   ColumnStep x n d s a f C C′      modulo x, column d becomes a times itself and f times column s
+--   Linked n m A C P                what such an operation keeps: P = A·C, and a table that kills P kills A
 --   Going n m r A C P             the same, and the first r rows of P are those of I
 --   Reaches n m r A P             the same, for some C
 --   Keeps n m r C P C′ P′         whatever A is, r rows stay so
@@ -16,18 +16,18 @@ use lib.IntN.{ℤ, pos, _+ℤ_, _*ℤ_}
 use Rattle.numbers.specs.Numbers.{Cong, δ}
 use Rattle.tables.specs.Tables.{Matrix, _·⟨_⟩_, CongM}
 
-pub record Stepped (x : ℤ) (n d s : ℕ) (a f : ℤ) (C C′ : Matrix) : Type 0 where
+pub record ColumnStep (x : ℤ) (n d s : ℕ) (a f : ℤ) (C C′ : Matrix) : Type 0 where
   pub rest : (i j : ℕ) → i < n → j < n → j ≢ d → Cong x (C′ i j) (C i j)
   pub here : (i : ℕ) → i < n → Cong x (C′ i d) (a *ℤ C i d +ℤ f *ℤ C i s)
 
 -- `kills` for every divisor t of m: where m is a power, a stop shows that A has no inverse modulo the base
-pub record Kept (n m : ℕ) (A C P : Matrix) : Type 0 where
+pub record Linked (n m : ℕ) (A C P : Matrix) : Type 0 where
   pub product : CongM n (pos m) P (A ·⟨ n ⟩ C)
   pub kills : (t : ℕ) → Cong (pos t) (pos m) (pos 0) → (W : Matrix)
       → CongM n (pos t) (W ·⟨ n ⟩ P) (λ i j. pos 0) → CongM n (pos t) (W ·⟨ n ⟩ A) (λ i j. pos 0)
 
 pub record Going (n m r : ℕ) (A C P : Matrix) : Type 0 where
-  pub kept : Kept n m A C P
+  pub kept : Linked n m A C P
   pub rows : (i : ℕ) → i < r → (j : ℕ) → j < n → Cong (pos m) (P i j) (δ i j)
 
 pub record Reaches (n m r : ℕ) (A P : Matrix) : Type 0 where

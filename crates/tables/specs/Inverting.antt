@@ -5,7 +5,7 @@
 --   Zeros t                    the list holds zeros only
 --   RowStep X n d s a f t t′   modulo X, row d becomes a times itself and f times row s
 --   Held X n r t row           `row` is row r of the table, modulo X
---   Ready Q X n r c p c′ p′    modulo X the work is kept, and the entry of p′ at row r and column r has the property Q
+--   Prepared Q X n r c p c′ p′    modulo X the work is kept, and the entry of p′ at row r and column r has the property Q
 --   Sweep X n r v w c p        what `sweep` asks: v and w are the rows r of c and p, and the entry of p there is 1
 --   Settled X n r c p c′ p′    modulo X, the work went on from r to r + 1
 use mathlib.Core.Path.{_≡_}
@@ -17,7 +17,7 @@ use lib.ListN.{length, getD}
 use Rattle.numbers.specs.Numbers.{Cong, δ}
 use Rattle.tables.specs.Tables.{Matrix, _≈⟨_⟩_, _·⟨_⟩_, _ᵀ, CongM, block}
 use Rattle.tables.specs.Buffer.{Low}
-use Rattle.tables.specs.Elimination.{Stepped, Keeps, Advances, One}
+use Rattle.tables.specs.Elimination.{ColumnStep, Keeps, Advances, One}
 use Rattle.tables.specs.Residues.{residues}
 
 pub record Inverted (n X : ℕ) (A : Matrix) (o : ℕ) (old new : List ℤ) : Type 0 where
@@ -36,13 +36,13 @@ Zeros t = (k : ℕ) → getD t k 0 ≡ 0
 
 pub record RowStep (X n d s : ℕ) (a f : ℤ) (t t′ : List ℕ) : Type 0 where
   pub long : length t′ ≡ length t
-  pub step : Stepped (pos X) n d s a f (residues n t ᵀ) (residues n t′ ᵀ)
+  pub step : ColumnStep (pos X) n d s a f (residues n t ᵀ) (residues n t′ ᵀ)
 
 pub record Held (X n r : ℕ) (t row : List ℕ) : Type 0 where
   pub long : n ≤ length row
   pub same : (j : ℕ) → j < n → Cong (pos X) (pos (getD row j 0)) (residues n t r j)
 
-pub record Ready (Q : ℤ → Type 0) (X n r : ℕ) (c p c′ p′ : List ℕ) : Type 0 where
+pub record Prepared (Q : ℤ → Type 0) (X n r : ℕ) (c p c′ p′ : List ℕ) : Type 0 where
   pub spans : Spans n c′ p′
   pub keeps : Keeps n X r (residues n c ᵀ) (residues n p ᵀ) (residues n c′ ᵀ) (residues n p′ ᵀ)
   pub entry : Q (residues n p′ r r)

@@ -9,7 +9,7 @@ ghost use Rattle.numbers.specs.Limits.{IsOrder};
 ghost use Rattle.numbers.specs.Remainder.{rem};
 ghost use Rattle.numbers.specs.Says.{Tells};
 ghost use Rattle.tables.specs.Tables.{_·⟨_⟩_, Zero, block, tableAt};
-ghost use Rattle.tables.specs.Buffer.{Low, RowLow, Has, BlockPut, RowPut, Copied};
+ghost use Rattle.tables.specs.Buffer.{Low, RowLow, Has, BlockPut, RowPut};
 ghost use Rattle.tables.specs.Kernels.{Dot, Product, Remain, shrunk, Shrink, Balance, Extend};
 
 // Block o becomes the product of blocks p and q.
@@ -136,18 +136,6 @@ fn identity_row(n: usize, buf: &mut [i64], o: usize, i: usize)
     while j < n {
         buf[at + j] = unit(i, j);
         j += 1;
-    }
-}
-
-// The first m numbers of a, to the front of the buffer.
-pub fn copy(m: usize, a: &[i64], buf: &mut [i64])
-    requires { ⌜ (m ≤ length (now a)) × (m ≤ length (now buf)) ⌝ }
-    ensures { λ _. ⌜ Copied m (now (a .entry)) (now (buf .entry)) (now (buf .exit)) ⌝ }
-{
-    let mut t: usize = 0;
-    while t < m {
-        buf[t] = a[t];
-        t += 1;
     }
 }
 

@@ -9,7 +9,7 @@ ghost use Rattle.numbers.specs.Numbers.{Cong, δ};
 ghost use Rattle.tables.specs.Tables.{_·⟨_⟩_, _≈⟨_⟩_, _ᵀ, CongM, entries, HasInverseMod};
 ghost use Rattle.tables.specs.Buffer.{Has};
 ghost use Rattle.tables.specs.Elimination.{None, Some, One, Pivot};
-ghost use Rattle.tables.specs.Inverting.{Inverted, Spans, Zeros, RowStep, Ready, Sweep, Settled};
+ghost use Rattle.tables.specs.Inverting.{Inverted, Spans, Zeros, RowStep, Prepared, Sweep, Settled};
 ghost use Rattle.tables.specs.Residues.{residues};
 
 // Block o becomes some inverse of the table a modulo 2^32, with entries within 2^32; every other block is as it was.
@@ -53,7 +53,7 @@ fn settle(n: usize, r: usize, c: &mut [u32], p: &mut [u32])
 fn lead(n: usize, r: usize, c: &mut [u32], p: &mut [u32])
     requires { ⌜ (r < n) × Spans n (now c) (now p) ⌝ }
     requires { ⌜ ¬ None 2 n r (residues n (now p) ᵀ) ⌝ }
-    ensures { λ _. ⌜ Ready (Some 2) (2 ^ 32) n r (now (c .entry)) (now (p .entry)) (now (c .exit)) (now (p .exit)) ⌝ }
+    ensures { λ _. ⌜ Prepared (Some 2) (2 ^ 32) n r (now (c .entry)) (now (p .entry)) (now (c .exit)) (now (p .exit)) ⌝ }
 {
     let s = pivot(n, r, p);
     if s != r {
@@ -89,7 +89,7 @@ fn gain(n: usize, d: usize, s: usize, t: &mut [u32])
 fn scale(n: usize, r: usize, c: &mut [u32], p: &mut [u32])
     requires { ⌜ (r < n) × Spans n (now c) (now p) ⌝ }
     requires { ⌜ Some 2 (residues n (now p) r r) ⌝ }
-    ensures { λ _. ⌜ Ready (One (2 ^ 32)) (2 ^ 32) n r (now (c .entry)) (now (p .entry)) (now (c .exit)) (now (p .exit)) ⌝ }
+    ensures { λ _. ⌜ Prepared (One (2 ^ 32)) (2 ^ 32) n r (now (c .entry)) (now (p .entry)) (now (c .exit)) (now (p .exit)) ⌝ }
 {
     let u = unit(p[r * n + r]);
     crate::residues::scale_row(n, u, c, r * n);

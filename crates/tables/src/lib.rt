@@ -2,6 +2,7 @@
 ghost use Prim.Native.Nat.{_+_, _≤_};
 ghost use lib.ListN.{length};
 ghost use Rattle.numbers.specs.Says.{Tells};
+ghost use Rattle.tables.specs.Buffer.{Copied};
 ghost use Rattle.tables.specs.Views.{Stretch, HasRow, RowGives};
 
 pub mod block_residues;
@@ -30,6 +31,18 @@ pub fn part(t: &[i64], start: usize, size: usize) -> &[i64]
 {
     let end = start + size;
     &t[start..end]
+}
+
+// The first m numbers of a, to the front of the buffer.
+pub fn copy(m: usize, a: &[i64], buf: &mut [i64])
+    requires { ⌜ (m ≤ length (now a)) × (m ≤ length (now buf)) ⌝ }
+    ensures { λ _. ⌜ Copied m (now (a .entry)) (now (buf .entry)) (now (buf .exit)) ⌝ }
+{
+    let mut t: usize = 0;
+    while t < m {
+        buf[t] = a[t];
+        t += 1;
+    }
 }
 
 // Whether a table of `size` numbers has a row i at order n.

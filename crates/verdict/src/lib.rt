@@ -253,6 +253,6 @@ pub fn inverse(n: usize, table: &[i64], out: &mut [i64]) -> Outcome
     if answer.number != 0 {
         return answer;
     }
-    tables::blocks::copy(n * n, &buf, out);
+    tables::copy(n * n, &buf, out);
     answer
 }

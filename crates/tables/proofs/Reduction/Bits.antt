@@ -22,7 +22,7 @@ use Rattle.numbers.proofs.Algebra.RingSolver.{ring, #_, ⊝_, _⊕_, _⊖_, _�
 use Rattle.numbers.proofs.Remainders.Congruence.{Cong, cong-of-eq, cong-sym, cong-trans}
 use Rattle.numbers.proofs.Remainders.Division.{residue-cong}
 use Rattle.tables.specs.Parity.{bits, xored}
-use Rattle.tables.specs.Elimination.{Stepped, Some, One}
+use Rattle.tables.specs.Elimination.{ColumnStep, Some, One}
 
 -- ---- one bit
 
@@ -112,7 +112,7 @@ half-fits (negsuc n) h = record { sfits = omega (arith, h .sfits, mag-neg (suc n
 
 -- word s joins word d: column s is added to column d
 pub xor-step : {n : ℕ} (l : List ℕ) (d s : ℕ) → d < length l
-    → Stepped (pos 2) n d s (pos 1) (pos 1) (bits l) (bits (xored l d s))
+    → ColumnStep (pos 2) n d s (pos 1) (pos 1) (bits l) (bits (xored l d s))
 xor-step l d s h = record {
   rest = λ i j hi hj e. cong-of-eq (pos 2) (ap (λ (w : ℕ). pos (w / 2 ^ i % 2)) (getD-set-other l d j r 0 e));
   here = λ i hi.

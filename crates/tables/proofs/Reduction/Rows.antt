@@ -13,7 +13,7 @@ use Rattle.numbers.proofs.Remainders.Congruence.{Cong, cong-of-eq, cong-refl, c
 use Rattle.tables.specs.Tables.{Matrix, _ᵀ}
 use Rattle.tables.specs.Buffer.{Wrote}
 use Rattle.tables.specs.Elimination.{Going, Some, One, Pivot}
-use Rattle.tables.specs.Inverting.{Spans, RowStep, Held, Ready, Sweep, Settled}
+use Rattle.tables.specs.Inverting.{Spans, RowStep, Held, Prepared, Sweep, Settled}
 use Rattle.tables.specs.Residues.{residues}
 use Rattle.tables.proofs.Buffers.Places.{beside}
 use Rattle.tables.proofs.Reduction.Steps.{stepped-down, going-step, going-add}
@@ -73,10 +73,10 @@ spans-on q w z = record { order = z .order; long-c = omega (arith, z .long-c, q 
 -- ---- `lead`
 
 module _ {b n r s : ℕ} {c p : List ℕ} (z : Spans n c p) (v : Pivot b n r (residues n p ᵀ) s) (h : r < n) (l : s < n) where
-  pub lead-here : {X : ℕ} → s ≡ r → Ready (Some b) X n r c p c p
+  pub lead-here : {X : ℕ} → s ≡ r → Prepared (Some b) X n r c p c p
   lead-here e = record { spans = z; keeps = record { on = λ A g. g }; entry = rw e at (v .some l) }
 
-  pub lead-gain : {X : ℕ} {c′ p′ : List ℕ} → Cong (pos b) (pos X) (pos 0) → s ≢ r → RowStep X n r s (pos 1) (pos 1) c c′ → RowStep X n r s (pos 1) (pos 1) p p′ → Ready (Some b) X n r c p c′ p′
+  pub lead-gain : {X : ℕ} {c′ p′ : List ℕ} → Cong (pos b) (pos X) (pos 0) → s ≢ r → RowStep X n r s (pos 1) (pos 1) c c′ → RowStep X n r s (pos 1) (pos 1) p p′ → Prepared (Some b) X n r c p c′ p′
   lead-gain d e q w = record {
     spans = spans-on q w z;
     keeps = record { on = λ A g. going-add (v .from) l e (q .step) (w .step) g };
@@ -86,7 +86,7 @@ module _ {b n r s : ℕ} {c p : List ℕ} (z : Spans n c p) (v : Pivot b n r (re
 -- ---- `scale`
 
 pub scale-ready : {X n r u : ℕ} {c p c′ p′ : List ℕ} → r < n → Spans n c p → One X (pos u *ℤ residues n p r r)
-    → RowStep X n r r (pos u) (pos 0) c c′ → RowStep X n r r (pos u) (pos 0) p p′ → Ready (One X) X n r c p c′ p′
+    → RowStep X n r r (pos u) (pos 0) c c′ → RowStep X n r r (pos u) (pos 0) p p′ → Prepared (One X) X n r c p c′ p′
 scale-ready {X} {n} {r} {u} {p = p} h z e q w = record {
   spans = spans-on q w z;
   keeps = record {

@@ -11,7 +11,7 @@ use Rattle.numbers.proofs.Algebra.RingSolver.{ring, #_, ⊝_, _⊕_, _⊖_, _�
 use Rattle.numbers.proofs.Algebra.Sum.{δ, δ-same, δ-other}
 use Rattle.numbers.proofs.Remainders.Congruence.{Cong, cong-of-eq, cong-refl, cong-sym, cong-down, cong-trans, cong-near, cong-+, cong-*, cong-sub, cong-sum}
 use Rattle.tables.specs.Tables.{Matrix, _⊟_, _·⟨_⟩_, CongM, HasInverseMod}
-use Rattle.tables.specs.Elimination.{Stepped, Going, None, Some, Pivot}
+use Rattle.tables.specs.Elimination.{ColumnStep, Going, None, Some, Pivot}
 use Rattle.tables.proofs.Algebra.Matrix.{·-idʳ}
 use Rattle.tables.proofs.Algebra.MatrixSolver.{matrix, modular, given_is_by_and_then_, 𝟘ᵉ, 𝟙, _⊟ᵉ_, _·ᵉ_, _⊙ᵉ_, _≑_}
 use Rattle.tables.proofs.Inverses.Laws.{no-inverse}
@@ -32,7 +32,7 @@ going-first {n} {m} {A} {C} {P} c p = record {
 
 -- ---- column s, the pivot, is added to column r, whose entry in row r is a multiple of b
 
-pub pivot-some : {b n r s : ℕ} {P P′ : Matrix} → r < n → s < n → s ≢ r → Pivot b n r P s → Stepped (pos b) n r s (pos 1) (pos 1) P P′ → Some b (P′ r r)
+pub pivot-some : {b n r s : ℕ} {P P′ : Matrix} → r < n → s < n → s ≢ r → Pivot b n r P s → ColumnStep (pos b) n r s (pos 1) (pos 1) P P′ → Some b (P′ r r)
 pivot-some {b} {r = r} {s = s} {P = P} h l e v p z =
     let zero : Cong (pos b) (P r r) (pos 0) = v .none r (omega arith) (omega (arith, v .from)) in
     v .some l
@@ -61,7 +61,7 @@ clear-pivot {m = m} {r = r} {P = P} e q =
 
 -- column r is added to column k so often that the entry vanishes
 pub clear-add : {n m k r : ℕ} {f : ℤ} {A C P C′ P′ : Matrix} → r < n → k < n → k ≢ r → Cong (pos m) (P r k +ℤ f) (pos 0)
-    → Stepped (pos m) n k r (pos 1) f C C′ → Stepped (pos m) n k r (pos 1) f P P′ → Clearing n m k r A C P → Clearing n m (k + 1) r A C′ P′
+    → ColumnStep (pos m) n k r (pos 1) f C C′ → ColumnStep (pos m) n k r (pos 1) f P P′ → Clearing n m k r A C P → Clearing n m (k + 1) r A C′ P′
 clear-add {n} {m} {k} {r} {f} {A} {C} {P} {C′} {P′} hr hk e z c p q =
     clear-pass (cong-trans there (cong-of-eq x (sym (δ-other (λ e′. e (sym e′))))))
     (record {

@@ -13,7 +13,7 @@ use Rattle.numbers.proofs.Algebra.RingSolver.{ring, #_, _⊕_, _⊖_, _⊗_, _�
 use Rattle.numbers.proofs.Algebra.Sum.{sum, sum-cong, sum-+, sum-scaleˡ, δ, δ-other}
 use Rattle.numbers.proofs.Remainders.Congruence.{Cong, cong-of-eq, cong-refl, cong-sym, cong-down, cong-trans, cong-+, cong-*, cong-sub, cong-sum}
 use Rattle.tables.specs.Tables.{Matrix, _·⟨_⟩_, CongM}
-use Rattle.tables.specs.Elimination.{Stepped, Kept, Going}
+use Rattle.tables.specs.Elimination.{ColumnStep, Linked, Going}
 
 -- an operation that can be undone: a is a unit, and column s is another one unless it is not used
 pub record Undone (x : ℤ) (n d s : ℕ) (a f : ℤ) : Type 0 where
@@ -23,7 +23,7 @@ pub record Undone (x : ℤ) (n d s : ℕ) (a f : ℤ) : Type 0 where
   pub inverse : Cong x (unit *ℤ a) (pos 1)
 
 module _ {t m : ℤ} {n d s : ℕ} {a f : ℤ} (q : Cong t m (pos 0)) where
-  pub stepped-down : {C C′ : Matrix} → Stepped m n d s a f C C′ → Stepped t n d s a f C C′
+  pub stepped-down : {C C′ : Matrix} → ColumnStep m n d s a f C C′ → ColumnStep t n d s a f C C′
   stepped-down h = record { rest = λ i j k l e. cong-down (h .rest i j k l e) q; here = λ i k. cong-down (h .here i k) q }
 
   undone-down : Undone m n d s a f → Undone t n d s a f
@@ -33,7 +33,7 @@ module _ {t m : ℤ} {n d s : ℕ} {a f : ℤ} (q : Cong t m (pos 0)) where
 pub moved : ℕ → ℕ → ℤ → ℤ → Matrix → Matrix
 moved d s a f C i j = cond (eqb j d) (a *ℤ C i d +ℤ f *ℤ C i s) (C i j)
 
-pub moved-is : {x : ℤ} {n d s : ℕ} {a f : ℤ} (C : Matrix) → Stepped x n d s a f C (moved d s a f C)
+pub moved-is : {x : ℤ} {n d s : ℕ} {a f : ℤ} (C : Matrix) → ColumnStep x n d s a f C (moved d s a f C)
 unfolding moved
 moved-is {x} {d = d} {s = s} {a = a} {f = f} C = record {
   rest = λ i j hi hj e. cong-of-eq x (ap (λ b. cond b (a *ℤ C i d +ℤ f *ℤ C i s) (C i j)) (ne-eqb j d e));
@@ -49,14 +49,14 @@ moved-is {x} {d = d} {s = s} {a = a} {f = f} C = record {
     ∙ ap₂ _+ℤ_ (sum-scaleˡ n a (λ k. M i k *ℤ C k d)) (sum-scaleˡ n f (λ k. M i k *ℤ C k s))
 
 module _ {x : ℤ} {n d s : ℕ} {a f : ℤ} where
-  stepped-· : {C C′ : Matrix} (M : Matrix) → Stepped x n d s a f C C′ → Stepped x n d s a f (M ·⟨ n ⟩ C) (M ·⟨ n ⟩ C′)
+  stepped-· : {C C′ : Matrix} (M : Matrix) → ColumnStep x n d s a f C C′ → ColumnStep x n d s a f (M ·⟨ n ⟩ C) (M ·⟨ n ⟩ C′)
   stepped-· {C} M h = record {
     rest = λ i j p q e. cong-sum x n (λ k l. cong-* (cong-refl (M i k)) (h .rest k j l q e));
     here = λ i p. cong-trans (cong-sum x n (λ k l. cong-* (cong-refl (M i k)) (h .here k l))) (cong-of-eq x (·-linear n d s a f M C i));
   }
 
   -- the same operation on congruent tables
-  stepped-cong : {C C′ D D′ : Matrix} → s < n → CongM n x C D → Stepped x n d s a f C C′ → Stepped x n d s a f D D′ → CongM n x C′ D′
+  stepped-cong : {C C′ D D′ : Matrix} → s < n → CongM n x C D → ColumnStep x n d s a f C C′ → ColumnStep x n d s a f D D′ → CongM n x C′ D′
   stepped-cong {C} {C′} {D} {D′} hs e u v i j hi hj = go (ℕ-discrete j d)
     where
       go : Dec (j ≡ d) → Cong x (C′ i j) (D′ i j)
@@ -67,7 +67,7 @@ module _ {x : ℤ} {n d s : ℕ} {a f : ℤ} where
           (cong-trans (cong-+ (cong-* (cong-refl a) (e i d hi (rw (sym q) hj))) (cong-* (cong-refl f) (e i s hi hs))) (cong-sym (v .here i hi))))
 
   -- where it ends in 0, it began in 0
-  stepped-zero : {Q Q′ : Matrix} → Undone x n d s a f → Stepped x n d s a f Q Q′ → CongM n x Q′ (λ i j. pos 0) → CongM n x Q (λ i j. pos 0)
+  stepped-zero : {Q Q′ : Matrix} → Undone x n d s a f → ColumnStep x n d s a f Q Q′ → CongM n x Q′ (λ i j. pos 0) → CongM n x Q (λ i j. pos 0)
   stepped-zero {Q} {Q′} u h z i j hi hj = go (ℕ-discrete j d)
     where
       b : ℤ
@@ -92,7 +92,7 @@ module _ {x : ℤ} {n d s : ℕ} {a f : ℤ} where
           (cong-of-eq x (ring 1 (λ b. b ⊗ (# 0 ⊖ # 0) ≐ # 0) tt b))))))
 
 kept-step : {n m d s : ℕ} {a f : ℤ} {A C P C′ P′ : Matrix} → Undone (pos m) n d s a f
-    → Stepped (pos m) n d s a f C C′ → Stepped (pos m) n d s a f P P′ → Kept n m A C P → Kept n m A C′ P′
+    → ColumnStep (pos m) n d s a f C C′ → ColumnStep (pos m) n d s a f P P′ → Linked n m A C P → Linked n m A C′ P′
 kept-step {A = A} u c p k = record {
   product = stepped-cong (u .inside) (k .product) p (stepped-· A c);
   kills = λ t q W z. k .kills t q W (stepped-zero (undone-down q u) (stepped-· W (stepped-down q p)) z);
@@ -100,7 +100,7 @@ kept-step {A = A} u c p k = record {
 
 -- an operation with column s from r on keeps the r unit rows, where it keeps those of I
 pub going-step : {n m r d s : ℕ} {a f : ℤ} {A C P C′ P′ : Matrix} → r ≤ s → ((i : ℕ) → i < r → a *ℤ δ i d ≡ δ i d) → Undone (pos m) n d s a f
-    → Stepped (pos m) n d s a f C C′ → Stepped (pos m) n d s a f P P′ → Going n m r A C P → Going n m r A C′ P′
+    → ColumnStep (pos m) n d s a f C C′ → ColumnStep (pos m) n d s a f P P′ → Going n m r A C P → Going n m r A C′ P′
 going-step {n} {m} {r} {d} {s} {a} {f} {A} {C} {P} {C′} {P′} l scale u c p g =
     record { kept = kept-step u c p (g .kept); rows = λ i hi j hj. go i j hi hj (ℕ-discrete j d) }
   where
@@ -123,6 +123,6 @@ going-step {n} {m} {r} {d} {s} {a} {f} {A} {C} {P} {C′} {P′} l scale u c p g
 
 -- in particular where column s is only added
 pub going-add : {n m r d s : ℕ} {f : ℤ} {A C P C′ P′ : Matrix} → r ≤ s → s < n → s ≢ d
-    → Stepped (pos m) n d s (pos 1) f C C′ → Stepped (pos m) n d s (pos 1) f P P′ → Going n m r A C P → Going n m r A C′ P′
+    → ColumnStep (pos m) n d s (pos 1) f C C′ → ColumnStep (pos m) n d s (pos 1) f P P′ → Going n m r A C P → Going n m r A C′ P′
 going-add {m = m} {d = d} l h e =
     going-step l (λ i k. ring 1 (λ v. # 1 ⊗ v ≐ v) tt (δ i d)) (record { inside = h; apart = inr e; unit = pos 1; inverse = cong-of-eq (pos m) refl })

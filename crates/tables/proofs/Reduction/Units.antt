@@ -1,15 +1,16 @@
--- Numbers modulo X: the test for a multiple, a residue that gains a product, as the machine does them, and the inverse of a unit. Where 1 - h g is y t
--- modulo X, 1 - h (2 - g h) g is its square: so a few steps from an inverse modulo a base b lead to one modulo every X that divides a power of b.
+-- Numbers modulo X: the test for a multiple and a residue that gains a product, as the machine does them, and the inverse of a unit. Where 1 - h g is a
+-- multiple of b^j, 1 - h (2 - g h) g is its square and one of b^2j: so five steps lead from an inverse modulo b to one modulo every divisor of b^32.
 use mathlib.Core.Path.{_≡_, sym, ap, _∙_}
 use mathlib.Core.Logic.{_≢_}
 use Prim.Native.Nat.{ℕ, _+_, _-_, _*_, _%_, _^_, _<_}
-use native.Mathlib.Nat.{mod-eq-of-lt, pow-suc, pow-zero, one-mul}
+use native.Mathlib.Nat.{mod-eq-of-lt}
 use native.Mathlib.Omega.{arith}
 use lib.IntN.{ℤ, pos, negℤ, _+ℤ_, _-ℤ_, _*ℤ_}
 use lib.Pow.{pow-add}
 use Rattle.numbers.proofs.Algebra.RingSolver.{ring, if_is_by_then_, #_, ⊝_, _⊕_, _⊖_, _⊗_, _≐_}
 use Rattle.numbers.proofs.Remainders.Congruence.{Cong, cong-of-eq, cong-refl, cong-sym, cong-trans, cong-+, cong-*, cong-sub}
 use Rattle.numbers.proofs.Remainders.Division.{residue-cong, residue-same}
+use Rattle.numbers.proofs.Remainders.Powers.{power-one}
 use Rattle.tables.specs.Elimination.{Some, One}
 
 module _ {X : ℕ} (h : 0 < X) where
@@ -71,11 +72,8 @@ five-steps {b} {X} g h₀ {h₅ = h₅} d e b₁ b₂ b₃ b₄ b₅ =
     cong-trans (k .left) (cong-trans (cong-* (cong-refl (k .y)) d) (cong-of-eq (pos X) (ring 1 (λ y. y ⊗ # 0 ≐ # 0) tt (k .y)))) in
     cong-trans (cong-of-eq (pos X) (ring 2 (λ g h. h ⊗ g ≐ # 1 ⊖ (# 1 ⊖ h ⊗ g)) tt (pos g) (pos h₅))) (cong-sub (cong-refl (pos 1)) z)
   where
-    base : pos (b ^ 1) ≡ pos b
-    base = ap pos (pow-suc b 0 ∙ ap (λ (m : ℕ). m * b) (pow-zero b) ∙ one-mul b)
-
     near : Near X b 1 g h₀
     near = record {
       y = negℤ (e .quot);
-      left = cong-of-eq (pos X) (ring 4 (λ b g h q. if h ⊗ g ⊖ # 1 is b ⊗ q by ⊝ # 1 then # 1 ⊖ h ⊗ g ≐ (⊝ q) ⊗ b) tt (pos b) (pos g) (pos h₀) (e .quot) (e .eqn) ∙ ap (λ q. negℤ (e .quot) *ℤ q) (sym base));
+      left = cong-of-eq (pos X) (ring 4 (λ b g h q. if h ⊗ g ⊖ # 1 is b ⊗ q by ⊝ # 1 then # 1 ⊖ h ⊗ g ≐ (⊝ q) ⊗ b) tt (pos b) (pos g) (pos h₀) (e .quot) (e .eqn) ∙ ap (λ q. negℤ (e .quot) *ℤ q) (sym (ap pos (power-one b))));
     }

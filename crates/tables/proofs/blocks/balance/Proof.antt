@@ -24,20 +24,8 @@ abbrev μ-loop : tie.MeasureT-loop
 mul-m : tie.Need-mul-m Inv-loop μ-loop
 mul-m c = omega (arith, square-small (c .pre .order .upto))
 
-mul-oa : tie.Need-mul-oa Inv-loop μ-loop
-mul-oa c = omega arith
-
 loop-holds : tie.Need-loop-holds Inv-loop μ-loop
 loop-holds c = (omega arith, wrote-none _ _ _)
-
-add-rem-pow : tie.Need-add-rem-pow Inv-loop μ-loop
-add-rem-pow c = omega arith
-
-mul-rem-pow : tie.Need-mul-rem-pow Inv-loop μ-loop
-mul-rem-pow c = omega arith
-
-slice-copy-out-rem-pow : tie.Need-slice-copy-out-rem-pow Inv-loop μ-loop
-slice-copy-out-rem-pow c = omega arith
 
 rem-pow-requires : tie.Need-rem-pow-requires Inv-loop μ-loop
 rem-pow-requires c κs =
@@ -45,21 +33,6 @@ rem-pow-requires c κs =
     let s = l .before in
     simp (rd-ok _ (c .rem-pow-arg .given) ∙ l .loop .inv .1 .after _ (omega arith))
     (exponent-of (s .pre .modulus), omega (arith, low-flat (s .args .buf .now) (s .args .o) (s .pre .order) (s .pre .room) (l .loop .t) (c .before .loop-test .taken)))
-
-add-v : tie.Need-add-v Inv-loop μ-loop
-add-v c = omega arith
-
-mul-v : tie.Need-mul-v Inv-loop μ-loop
-mul-v c = omega arith
-
-slice-set-from-v : tie.Need-slice-set-from-v Inv-loop μ-loop
-slice-set-from-v c = omega arith
-
-add-t : tie.Need-add-t Inv-loop μ-loop
-add-t c = omega arith
-
-loop-less : tie.Need-loop-less Inv-loop μ-loop
-loop-less c = omega arith
 
 loop-again : tie.Need-loop-again Inv-loop μ-loop
 loop-again c =
@@ -88,17 +61,17 @@ balance-spec =
     Inv-loop
     μ-loop
     mul-m
-    mul-oa
+    (λ c. omega arith)
     loop-holds
-    add-rem-pow
-    mul-rem-pow
-    slice-copy-out-rem-pow
+    (λ c. omega arith)
+    (λ c. omega arith)
+    (λ c. omega arith)
     rem-pow-requires
-    add-v
-    mul-v
-    slice-set-from-v
-    add-t
-    loop-less
+    (λ c. omega arith)
+    (λ c. omega arith)
+    (λ c. omega arith)
+    (λ c. omega arith)
+    (λ c. omega arith)
     loop-again
     same-length
     returns)

@@ -20,9 +20,6 @@ mul-result-2 c = omega (arith, digits-lt (c .pre .1 .0) (c .pre .1 .1 .0), squar
 shared-slice-copy-out-result : tie.Need-shared-slice-copy-out-result
 shared-slice-copy-out-result c = omega (arith, digits-lt (c .pre .1 .0) (c .pre .1 .1 .0), square-small (c .pre .0))
 
-returns : tie.Need-returns
-returns c = search needs
-
 pub cell-spec : {M : Type 1} → statement M
 cell-spec =
-    tie.close (tie.spec mul-result add-result add-result-2 mul-result-2 shared-slice-copy-out-result returns)
+    tie.close (tie.spec mul-result add-result add-result-2 mul-result-2 shared-slice-copy-out-result (λ c. search needs))

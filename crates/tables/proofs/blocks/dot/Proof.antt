@@ -37,12 +37,6 @@ mac-requires c κs =
     simp (l .loop .inv .1, rd-got (c .before .cell .result) (c .before .cell .ok) (c .before .cell .ensures), rd-got (c .cell2 .result) (c .cell2 .ok) (c .cell2 .ensures))
     (dot-room (l .before .pre) (l .loop .k) (c .before .before .loop-test .taken))
 
-add-k : tie.Need-add-k Inv-loop μ-loop
-add-k c = omega arith
-
-loop-less : tie.Need-loop-less Inv-loop μ-loop
-loop-less c = omega arith
-
 loop-again : tie.Need-loop-again Inv-loop μ-loop
 loop-again c =
     let l = c .before .before .before .before in
@@ -62,4 +56,4 @@ returns c =
 pub dot-spec : {M : Type 1} → statement M
 dot-spec =
     tie.close
-    (tie.spec Inv-loop μ-loop loop-holds cell-requires cell-requires-2 mac-requires add-k loop-less loop-again returns)
+    (tie.spec Inv-loop μ-loop loop-holds cell-requires cell-requires-2 mac-requires (λ c. omega arith) (λ c. omega arith) loop-again returns)

@@ -64,45 +64,6 @@ returns c =
     let e : c .before .loop .t ≡ s .args .n * s .args .n = omega arith in
     put-of (s .args .n) (s .args .c) (rw e at (c .before .loop .inv .1))
 
-mul-ca : tie.Need-mul-ca Inv-loop μ-loop
-mul-ca c = omega arith
-
-mul-da : tie.Need-mul-da Inv-loop μ-loop
-mul-da c = omega arith
-
-add-mac : tie.Need-add-mac Inv-loop μ-loop
-add-mac c = omega arith
-
-mul-mac : tie.Need-mul-mac Inv-loop μ-loop
-mul-mac c = omega arith
-
-slice-copy-out-mac : tie.Need-slice-copy-out-mac Inv-loop μ-loop
-slice-copy-out-mac c = omega arith
-
-add-mac-2 : tie.Need-add-mac-2 Inv-loop μ-loop
-add-mac-2 c = omega arith
-
-mul-mac-2 : tie.Need-mul-mac-2 Inv-loop μ-loop
-mul-mac-2 c = omega arith
-
-slice-copy-out-mac-2 : tie.Need-slice-copy-out-mac-2 Inv-loop μ-loop
-slice-copy-out-mac-2 c = omega arith
-
-add-v : tie.Need-add-v Inv-loop μ-loop
-add-v c = omega arith
-
-mul-v : tie.Need-mul-v Inv-loop μ-loop
-mul-v c = omega arith
-
-slice-set-from-v : tie.Need-slice-set-from-v Inv-loop μ-loop
-slice-set-from-v c = omega arith
-
-add-t : tie.Need-add-t Inv-loop μ-loop
-add-t c = omega arith
-
-loop-less : tie.Need-loop-less Inv-loop μ-loop
-loop-less c = omega arith
-
 pub extend-spec : {M : Type 1} → statement M
 extend-spec =
     tie.close
@@ -110,22 +71,22 @@ extend-spec =
     Inv-loop
     μ-loop
     mul-m
-    mul-ca
-    mul-da
+    (λ c. omega arith)
+    (λ c. omega arith)
     pow2-requires
     loop-holds
-    add-mac
-    mul-mac
-    slice-copy-out-mac
-    add-mac-2
-    mul-mac-2
-    slice-copy-out-mac-2
+    (λ c. omega arith)
+    (λ c. omega arith)
+    (λ c. omega arith)
+    (λ c. omega arith)
+    (λ c. omega arith)
+    (λ c. omega arith)
     mac-requires
-    add-v
-    mul-v
-    slice-set-from-v
-    add-t
-    loop-less
+    (λ c. omega arith)
+    (λ c. omega arith)
+    (λ c. omega arith)
+    (λ c. omega arith)
+    (λ c. omega arith)
     loop-again
     same-length
     returns)

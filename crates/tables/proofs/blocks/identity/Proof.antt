@@ -20,12 +20,6 @@ identity-row-requires c κs =
     let l = c .before .before in
     (l .before .pre .0, (omega (arith, l .before .pre .1, l .loop .inv .wrote .long), c .before .loop-test .taken))
 
-add-i : tie.Need-add-i Inv-loop μ-loop
-add-i c = omega arith
-
-loop-less : tie.Need-loop-less Inv-loop μ-loop
-loop-less c = omega arith
-
 loop-again : tie.Need-loop-again Inv-loop μ-loop
 loop-again c =
     let l = c .before .before .before .before in
@@ -45,8 +39,8 @@ identity-spec =
     μ-loop
     loop-holds
     identity-row-requires
-    add-i
-    loop-less
+    (λ c. omega arith)
+    (λ c. omega arith)
     loop-again
     same-length
     returns)

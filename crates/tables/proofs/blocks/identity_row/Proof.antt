@@ -17,12 +17,6 @@ Inv-loop n buf₀ o i at j₀ buf j = (j ≤ n) × Wrote (pos 0) (δ i) (o * (n 
 abbrev μ-loop : tie.MeasureT-loop
 μ-loop n buf₀ o i at j₀ buf j = n - j
 
-mul-at : tie.Need-mul-at Inv-loop μ-loop
-mul-at c = omega arith
-
-mul-at-2 : tie.Need-mul-at-2 Inv-loop μ-loop
-mul-at-2 c = omega arith
-
 mul-at-3 : tie.Need-mul-at-3 Inv-loop μ-loop
 mul-at-3 c = omega (arith, row-end (c .pre .1 .1), square-small (c .pre .0 .upto))
 
@@ -44,12 +38,6 @@ mul-t13 c = let m = c .before .before .before .pre in omega (arith, row-end (m .
 slice-set-from-buf : tie.Need-slice-set-from-buf Inv-loop μ-loop
 slice-set-from-buf c = let m = c .before .before .before .pre in omega (arith, row-end (m .1 .1), m .1 .0)
 
-add-j : tie.Need-add-j Inv-loop μ-loop
-add-j c = omega arith
-
-loop-less : tie.Need-loop-less Inv-loop μ-loop
-loop-less c = omega arith
-
 loop-again : tie.Need-loop-again Inv-loop μ-loop
 loop-again c =
     let l = c .before .before in
@@ -70,8 +58,8 @@ identity-row-spec =
     (tie.spec
     Inv-loop
     μ-loop
-    mul-at
-    mul-at-2
+    (λ c. omega arith)
+    (λ c. omega arith)
     mul-at-3
     add-at
     loop-holds
@@ -79,8 +67,8 @@ identity-row-spec =
     add-t12
     mul-t13
     slice-set-from-buf
-    add-j
-    loop-less
+    (λ c. omega arith)
+    (λ c. omega arith)
     loop-again
     same-length
     returns)

@@ -20,12 +20,6 @@ product-row-requires c κs =
     let l = c .before .before in
     (product-kept (l .before .pre) (rows-rest (l .loop .inv)), c .before .loop-test .taken)
 
-add-i : tie.Need-add-i Inv-loop μ-loop
-add-i c = omega arith
-
-loop-less : tie.Need-loop-less Inv-loop μ-loop
-loop-less c = omega arith
-
 loop-again : tie.Need-loop-again Inv-loop μ-loop
 loop-again c =
     let l = c .before .before .before .before in
@@ -46,8 +40,8 @@ product-spec =
     μ-loop
     loop-holds
     product-row-requires
-    add-i
-    loop-less
+    (λ c. omega arith)
+    (λ c. omega arith)
     loop-again
     same-length
     returns)

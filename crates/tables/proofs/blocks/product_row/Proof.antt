@@ -21,15 +21,6 @@ abbrev μ-loop : tie.MeasureT-loop
 mul-m : tie.Need-mul-m Inv-loop μ-loop
 mul-m c = omega (arith, square-small (c .pre .0 .order .upto))
 
-mul-pa : tie.Need-mul-pa Inv-loop μ-loop
-mul-pa c = omega arith
-
-mul-qa : tie.Need-mul-qa Inv-loop μ-loop
-mul-qa c = omega arith
-
-mul-at : tie.Need-mul-at Inv-loop μ-loop
-mul-at c = omega arith
-
 mul-at-2 : tie.Need-mul-at-2 Inv-loop μ-loop
 mul-at-2 c = omega (arith, row-end (c .pre .1), square-small (c .pre .0 .order .upto))
 
@@ -54,12 +45,6 @@ mul-v c = let m = c .before .before .before .before .pre in omega (arith, row-en
 
 slice-set-from-v : tie.Need-slice-set-from-v Inv-loop μ-loop
 slice-set-from-v c = let m = c .before .before .before .before .pre in omega (arith, row-end (m .1), m .0 .target)
-
-add-j : tie.Need-add-j Inv-loop μ-loop
-add-j c = omega arith
-
-loop-less : tie.Need-loop-less Inv-loop μ-loop
-loop-less c = omega arith
 
 loop-again : tie.Need-loop-again Inv-loop μ-loop
 loop-again c =
@@ -86,9 +71,9 @@ product-row-spec =
     Inv-loop
     μ-loop
     mul-m
-    mul-pa
-    mul-qa
-    mul-at
+    (λ c. omega arith)
+    (λ c. omega arith)
+    (λ c. omega arith)
     mul-at-2
     add-at
     loop-holds
@@ -96,8 +81,8 @@ product-row-spec =
     add-v
     mul-v
     slice-set-from-v
-    add-j
-    loop-less
+    (λ c. omega arith)
+    (λ c. omega arith)
     loop-again
     same-length
     returns)

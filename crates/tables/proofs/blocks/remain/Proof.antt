@@ -11,26 +11,14 @@ use Rattle.tables.proofs.blocks.remain.Tie as tie
 mul-m : tie.Need-mul-m
 mul-m c = omega (arith, square-small (c .pre .order .upto))
 
-mul-take : tie.Need-mul-take
-mul-take c = omega arith
-
-slice-aggregate-take : tie.Need-slice-aggregate-take
-slice-aggregate-take c = omega arith
-
 take-requires : tie.Need-take-requires
 take-requires c κs = remain-1 (c .before .before .pre)
-
-slice-aggregate-product : tie.Need-slice-aggregate-product
-slice-aggregate-product c = omega arith
 
 product-requires : tie.Need-product-requires
 product-requires c κs = remain-2 (c .before .before .before .before .before .before .pre) (2 ^ 32) (c .before .before .before .take .ensures)
 
 balance-requires : tie.Need-balance-requires
 balance-requires c κs = remain-3 (c .before .before .before .before .before .before .before .before .before .pre) (2 ^ 32) (c .before .before .before .before .before .before .take .ensures) (omega arith) (c .before .before .product .ensures) (omega arith)
-
-same-length : tie.Need-same-length
-same-length c = search needs
 
 returns : tie.Need-returns
 returns c =
@@ -42,11 +30,11 @@ remain-spec =
     tie.close
     (tie.spec
     mul-m
-    mul-take
-    slice-aggregate-take
+    (λ c. omega arith)
+    (λ c. omega arith)
     take-requires
-    slice-aggregate-product
+    (λ c. omega arith)
     product-requires
     balance-requires
-    same-length
+    (λ c. search needs)
     returns)

@@ -22,12 +22,6 @@ shrink-row-requires c κs =
     let h = c .before .loop-test .taken in
     (shrink-kept (r .0) (rows-rest (l .loop .inv)), (h, λ j k. rw (rows-left (l .loop .inv) j) (r .1 .low _ j h k)))
 
-add-i : tie.Need-add-i Inv-loop μ-loop
-add-i c = omega arith
-
-loop-less : tie.Need-loop-less Inv-loop μ-loop
-loop-less c = omega arith
-
 loop-again : tie.Need-loop-again Inv-loop μ-loop
 loop-again c =
     let l = c .before .before .before .before in
@@ -48,8 +42,8 @@ shrink-spec =
     μ-loop
     loop-holds
     shrink-row-requires
-    add-i
-    loop-less
+    (λ c. omega arith)
+    (λ c. omega arith)
     loop-again
     same-length
     returns)

@@ -25,12 +25,6 @@ abbrev μ-loop : tie.MeasureT-loop
 mul-size : tie.Need-mul-size Inv-loop μ-loop
 mul-size c = omega (arith, square-small (c .pre .0 .order .upto))
 
-mul-ma : tie.Need-mul-ma Inv-loop μ-loop
-mul-ma c = omega arith
-
-mul-at : tie.Need-mul-at Inv-loop μ-loop
-mul-at c = omega arith
-
 mul-at-2 : tie.Need-mul-at-2 Inv-loop μ-loop
 mul-at-2 c = let m = c .pre in omega (arith, row-end (m .1 .0), m .0 .target, square-small (m .0 .order .upto))
 
@@ -92,12 +86,6 @@ mul-v c = let m = c .before .before .before .before .before .before .before .pre
 slice-set-from-v : tie.Need-slice-set-from-v Inv-loop μ-loop
 slice-set-from-v c = let m = c .before .before .before .before .before .before .before .pre in omega (arith, row-end (m .1 .0), m .0 .target, square-small (m .0 .order .upto))
 
-add-j : tie.Need-add-j Inv-loop μ-loop
-add-j c = omega arith
-
-loop-less : tie.Need-loop-less Inv-loop μ-loop
-loop-less c = omega arith
-
 loop-again : tie.Need-loop-again Inv-loop μ-loop
 loop-again c =
     let l = c .before .before .before .before .before .before in
@@ -119,8 +107,8 @@ shrink-row-spec =
     Inv-loop
     μ-loop
     mul-size
-    mul-ma
-    mul-at
+    (λ c. omega arith)
+    (λ c. omega arith)
     mul-at-2
     add-at
     loop-holds
@@ -133,8 +121,8 @@ shrink-row-spec =
     add-v
     mul-v
     slice-set-from-v
-    add-j
-    loop-less
+    (λ c. omega arith)
+    (λ c. omega arith)
     loop-again
     same-length
     returns)

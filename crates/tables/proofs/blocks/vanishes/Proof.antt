@@ -46,24 +46,6 @@ returns-2 c =
     let e : c .before .loop .t ≡ s .args .n * s .args .n = omega arith in
     say-yes (zero-of (s .args .buf .now) (s .args .o) (rw e at (c .before .loop .inv .1)))
 
-mul-oa : tie.Need-mul-oa Inv-loop μ-loop
-mul-oa c = omega arith
-
-add-if1 : tie.Need-add-if1 Inv-loop μ-loop
-add-if1 c = omega arith
-
-mul-if1 : tie.Need-mul-if1 Inv-loop μ-loop
-mul-if1 c = omega arith
-
-shared-slice-copy-out-if1 : tie.Need-shared-slice-copy-out-if1 Inv-loop μ-loop
-shared-slice-copy-out-if1 c = omega arith
-
-add-t : tie.Need-add-t Inv-loop μ-loop
-add-t c = omega arith
-
-loop-less : tie.Need-loop-less Inv-loop μ-loop
-loop-less c = omega arith
-
 pub vanishes-spec : {M : Type 1} → statement M
 vanishes-spec =
     tie.close
@@ -71,13 +53,13 @@ vanishes-spec =
     Inv-loop
     μ-loop
     mul-m
-    mul-oa
+    (λ c. omega arith)
     loop-holds
-    add-if1
-    mul-if1
-    shared-slice-copy-out-if1
+    (λ c. omega arith)
+    (λ c. omega arith)
+    (λ c. omega arith)
     returns
-    add-t
-    loop-less
+    (λ c. omega arith)
+    (λ c. omega arith)
     loop-again
     returns-2)

@@ -21,20 +21,8 @@ abbrev μ-loop : tie.MeasureT-loop
 mul-m : tie.Need-mul-m Inv-loop μ-loop
 mul-m c = omega (arith, square-small (c .pre .0 .upto))
 
-mul-oa : tie.Need-mul-oa Inv-loop μ-loop
-mul-oa c = omega arith
-
 loop-holds : tie.Need-loop-holds Inv-loop μ-loop
 loop-holds c = (omega arith, λ k h. absurd (not-suc-le-zero h))
-
-add-mag : tie.Need-add-mag Inv-loop μ-loop
-add-mag c = omega arith
-
-mul-mag : tie.Need-mul-mag Inv-loop μ-loop
-mul-mag c = omega arith
-
-shared-slice-copy-out-mag : tie.Need-shared-slice-copy-out-mag Inv-loop μ-loop
-shared-slice-copy-out-mag c = omega arith
 
 mag-requires : tie.Need-mag-requires Inv-loop μ-loop
 mag-requires c κs = tt
@@ -50,12 +38,6 @@ returns c =
     let l = c .before .before .before .before in
     let g = l .before in
     say-no (λ f. let h = low-flat (g .args .buf .now) (g .args .o) (g .pre .0) f (l .loop .t) (c .before .before .before .loop-test .taken) in let e = size (c .before) in omega arith)
-
-add-t : tie.Need-add-t Inv-loop μ-loop
-add-t c = omega arith
-
-loop-less : tie.Need-loop-less Inv-loop μ-loop
-loop-less c = omega arith
 
 loop-again : tie.Need-loop-again Inv-loop μ-loop
 loop-again c =
@@ -76,14 +58,14 @@ within-spec =
     Inv-loop
     μ-loop
     mul-m
-    mul-oa
+    (λ c. omega arith)
     loop-holds
-    add-mag
-    mul-mag
-    shared-slice-copy-out-mag
+    (λ c. omega arith)
+    (λ c. omega arith)
+    (λ c. omega arith)
     mag-requires
     returns
-    add-t
-    loop-less
+    (λ c. omega arith)
+    (λ c. omega arith)
     loop-again
     returns-2)

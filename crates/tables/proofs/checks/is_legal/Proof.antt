@@ -7,12 +7,6 @@ use Rattle.tables.proofs.checks.is_legal.Tie as tie
 first-outside-requires : tie.Need-first-outside-requires
 first-outside-requires c κs = search needs
 
-enum-told : tie.Need-enum-told
-enum-told c = search needs
-
-enum-told-2 : tie.Need-enum-told-2
-enum-told-2 c = search needs
-
 returns : tie.Need-returns
 returns c = let s = c .before .before in say-no (finds-illegal (s .before .args .n) (s .before .args .table .now) (s .before .pre .1) (s .first-outside .ensures) (c .enum-told .given .1))
 
@@ -20,4 +14,4 @@ returns-2 : tie.Need-returns-2
 returns-2 c = let s = c .before .before in say-yes (finds-legal (s .before .args .n) (s .before .args .table .now) (s .first-outside .ensures) (c .enum-told2 .given .1))
 
 pub is-legal-spec : {M : Type 1} → statement M
-is-legal-spec = tie.close (tie.spec first-outside-requires enum-told enum-told-2 returns returns-2)
+is-legal-spec = tie.close (tie.spec first-outside-requires (λ c. search needs) (λ c. search needs) returns returns-2)

@@ -18,12 +18,6 @@ abbrev μ-loop : tie.MeasureT-loop
 mul-m : tie.Need-mul-m Inv-loop μ-loop
 mul-m c = omega (arith, square-small (c .pre .order .upto))
 
-mul-pa : tie.Need-mul-pa Inv-loop μ-loop
-mul-pa c = omega arith
-
-mul-oa : tie.Need-mul-oa Inv-loop μ-loop
-mul-oa c = omega arith
-
 loop-holds : tie.Need-loop-holds Inv-loop μ-loop
 loop-holds c = column-none
 
@@ -58,12 +52,6 @@ mul-t17 c = let r = place _ (c .before) (c .before .before .before .pre .target)
 slice-set-from-buf : tie.Need-slice-set-from-buf Inv-loop μ-loop
 slice-set-from-buf c = let r = place _ (c .before) (c .before .before .before .pre .target) in omega arith
 
-add-i : tie.Need-add-i Inv-loop μ-loop
-add-i c = omega arith
-
-loop-less : tie.Need-loop-less Inv-loop μ-loop
-loop-less c = omega arith
-
 loop-again : tie.Need-loop-again Inv-loop μ-loop
 loop-again c =
     let l = c .before .before in
@@ -86,8 +74,8 @@ copy-spec =
     Inv-loop
     μ-loop
     mul-m
-    mul-pa
-    mul-oa
+    (λ c. omega arith)
+    (λ c. omega arith)
     loop-holds
     mul-buf
     add-buf
@@ -97,8 +85,8 @@ copy-spec =
     add-t16
     mul-t17
     slice-set-from-buf
-    add-i
-    loop-less
+    (λ c. omega arith)
+    (λ c. omega arith)
     loop-again
     same-length
     returns)

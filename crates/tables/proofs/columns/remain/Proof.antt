@@ -22,15 +22,6 @@ abbrev μ-loop : tie.MeasureT-loop
 mul-m : tie.Need-mul-m Inv-loop μ-loop
 mul-m c = omega (arith, square-small (c .pre .order .upto))
 
-mul-pa : tie.Need-mul-pa Inv-loop μ-loop
-mul-pa c = omega arith
-
-mul-qa : tie.Need-mul-qa Inv-loop μ-loop
-mul-qa c = omega arith
-
-mul-oa : tie.Need-mul-oa Inv-loop μ-loop
-mul-oa c = omega arith
-
 loop-holds : tie.Need-loop-holds Inv-loop μ-loop
 loop-holds c = column-none
 
@@ -68,12 +59,6 @@ mul-t21 c = let r = place (c .before .before .before) in omega arith
 slice-set-from-buf : tie.Need-slice-set-from-buf Inv-loop μ-loop
 slice-set-from-buf c = let r = place (c .before .before .before) in omega arith
 
-add-i : tie.Need-add-i Inv-loop μ-loop
-add-i c = omega arith
-
-loop-less : tie.Need-loop-less Inv-loop μ-loop
-loop-less c = omega arith
-
 loop-again : tie.Need-loop-again Inv-loop μ-loop
 loop-again c =
     let l = c .before .before .before .before in
@@ -95,9 +80,9 @@ remain-spec =
     Inv-loop
     μ-loop
     mul-m
-    mul-pa
-    mul-qa
-    mul-oa
+    (λ c. omega arith)
+    (λ c. omega arith)
+    (λ c. omega arith)
     loop-holds
     dot-requires
     rem-pow-requires
@@ -105,8 +90,8 @@ remain-spec =
     add-t20
     mul-t21
     slice-set-from-buf
-    add-i
-    loop-less
+    (λ c. omega arith)
+    (λ c. omega arith)
     loop-again
     same-length
     returns)

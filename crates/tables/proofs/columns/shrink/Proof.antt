@@ -21,12 +21,6 @@ abbrev μ-loop : tie.MeasureT-loop
 mul-size : tie.Need-mul-size Inv-loop μ-loop
 mul-size c = omega (arith, square-small (c .pre .order .upto))
 
-mul-ma : tie.Need-mul-ma Inv-loop μ-loop
-mul-ma c = omega arith
-
-mul-sa : tie.Need-mul-sa Inv-loop μ-loop
-mul-sa c = omega arith
-
 loop-holds : tie.Need-loop-holds Inv-loop μ-loop
 loop-holds c = column-none
 
@@ -87,12 +81,6 @@ mul-v-2 c = let r = place (c .before .before .before .before .before) in omega a
 slice-set-from-v : tie.Need-slice-set-from-v Inv-loop μ-loop
 slice-set-from-v c = let r = place (c .before .before .before .before .before) in omega arith
 
-add-i : tie.Need-add-i Inv-loop μ-loop
-add-i c = omega arith
-
-loop-less : tie.Need-loop-less Inv-loop μ-loop
-loop-less c = omega arith
-
 loop-again : tie.Need-loop-again Inv-loop μ-loop
 loop-again c =
     let l = c .before .before .before .before .before .before in
@@ -111,8 +99,8 @@ shrink-spec =
     Inv-loop
     μ-loop
     mul-size
-    mul-ma
-    mul-sa
+    (λ c. omega arith)
+    (λ c. omega arith)
     loop-holds
     dot-requires
     mul-sub
@@ -125,8 +113,8 @@ shrink-spec =
     add-v
     mul-v-2
     slice-set-from-v
-    add-i
-    loop-less
+    (λ c. omega arith)
+    (λ c. omega arith)
     loop-again
     same-length
     returns)

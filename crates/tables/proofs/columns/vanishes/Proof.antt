@@ -20,9 +20,6 @@ abbrev μ-loop : tie.MeasureT-loop
 mul-oa : tie.Need-mul-oa Inv-loop μ-loop
 mul-oa c = omega (arith, square-small (c .pre .0 .upto))
 
-mul-oa-2 : tie.Need-mul-oa-2 Inv-loop μ-loop
-mul-oa-2 c = omega arith
-
 none : (k : ℕ) → k < 0 → ⊥
 none k h = omega arith
 
@@ -54,12 +51,6 @@ returns c =
     let s = l .before in
     say-no (λ z. c .if1 .taken (zero-bits _ (head-block (s .args .n) (s .args .buf .now) (s .args .o) (l .loop .i) ∙ z _ (c .before .before .loop-test .taken))))
 
-add-i : tie.Need-add-i Inv-loop μ-loop
-add-i c = omega arith
-
-loop-less : tie.Need-loop-less Inv-loop μ-loop
-loop-less c = omega arith
-
 loop-again : tie.Need-loop-again Inv-loop μ-loop
 loop-again c =
     let l = c .before .before .before in
@@ -80,14 +71,14 @@ vanishes-spec =
     Inv-loop
     μ-loop
     mul-oa
-    mul-oa-2
+    (λ c. omega arith)
     loop-holds
     mul-if1
     add-if1
     mul-if1-2
     shared-slice-copy-out-if1
     returns
-    add-i
-    loop-less
+    (λ c. omega arith)
+    (λ c. omega arith)
     loop-again
     returns-2)

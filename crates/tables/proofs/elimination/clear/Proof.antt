@@ -8,26 +8,14 @@ use Rattle.tables.proofs.elimination.clear.Tie as tie
 mul-copy-row : tie.Need-mul-copy-row
 mul-copy-row c = let s = c .before .before .before .pre .0 in omega (arith, row-end (s .0), square-small (s .1 .order))
 
-slice-aggregate-copy-row : tie.Need-slice-aggregate-copy-row
-slice-aggregate-copy-row c = omega arith
-
 copy-row-requires : tie.Need-copy-row-requires
 copy-row-requires c κs = let s = c .before .before .before .before .pre .0 in omega (arith, row-end (s .0), s .1 .order, s .1 .long-c)
 
 mul-copy-row-2 : tie.Need-mul-copy-row-2
 mul-copy-row-2 c = let s = c .before .before .before .before .before .before .before .pre .0 in omega (arith, row-end (s .0), square-small (s .1 .order))
 
-slice-aggregate-copy-row-2 : tie.Need-slice-aggregate-copy-row-2
-slice-aggregate-copy-row-2 c = omega arith
-
 copy-row-requires-2 : tie.Need-copy-row-requires-2
 copy-row-requires-2 c κs = let s = c .before .before .before .before .before .before .before .before .pre .0 in omega (arith, row-end (s .0), s .1 .order, s .1 .long-p)
-
-slice-aggregate-sweep : tie.Need-slice-aggregate-sweep
-slice-aggregate-sweep c = omega arith
-
-slice-aggregate-sweep-2 : tie.Need-slice-aggregate-sweep-2
-slice-aggregate-sweep-2 c = omega arith
 
 sweep-requires : tie.Need-sweep-requires
 sweep-requires c κs =
@@ -40,28 +28,19 @@ sweep-requires c κs =
       held-p = held-copy (s .0 .1 .order) (c .before .before .before .before .before .copy-row2 .ensures);
     }
 
-same-length : tie.Need-same-length
-same-length c = search needs
-
-same-length-2 : tie.Need-same-length-2
-same-length-2 c = search needs
-
-returns : tie.Need-returns
-returns c = search needs
-
 pub clear-spec : {M : Type 1} → statement M
 clear-spec =
     tie.close
     (tie.spec
     mul-copy-row
-    slice-aggregate-copy-row
+    (λ c. omega arith)
     copy-row-requires
     mul-copy-row-2
-    slice-aggregate-copy-row-2
+    (λ c. omega arith)
     copy-row-requires-2
-    slice-aggregate-sweep
-    slice-aggregate-sweep-2
+    (λ c. omega arith)
+    (λ c. omega arith)
     sweep-requires
-    same-length
-    same-length-2
-    returns)
+    (λ c. search needs)
+    (λ c. search needs)
+    (λ c. search needs))

@@ -8,23 +8,14 @@ use Rattle.tables.proofs.elimination.gain.Tie as tie
 mul-copy-row : tie.Need-mul-copy-row
 mul-copy-row c = let s = c .before .before .pre in omega (arith, row-end (s .1 .1 .0), square-small (s .0))
 
-slice-aggregate-copy-row : tie.Need-slice-aggregate-copy-row
-slice-aggregate-copy-row c = omega arith
-
 copy-row-requires : tie.Need-copy-row-requires
 copy-row-requires c κs = let s = c .before .before .before .pre in omega (arith, row-end (s .1 .1 .0))
-
-slice-aggregate-fold-row : tie.Need-slice-aggregate-fold-row
-slice-aggregate-fold-row c = omega arith
 
 mul-fold-row : tie.Need-mul-fold-row
 mul-fold-row c = let s = c .before .before .before .before .before .before .before .pre in omega (arith, row-end (s .1 .0), square-small (s .0))
 
 fold-row-requires : tie.Need-fold-row-requires
 fold-row-requires c κs = let s = c .before .before .before .before .before .before .before .pre in omega (arith, row-end (s .1 .0), c .before .before .before .copy-row .ensures .long)
-
-same-length : tie.Need-same-length
-same-length c = search needs
 
 returns : tie.Need-returns
 returns c = row-gains (omega arith) (held-copy (c .before .before .before .before .before .before .before .before .before .before .pre .0) (c .before .before .before .before .before .before .copy-row .ensures)) (c .before .before .fold-row .ensures)
@@ -34,10 +25,10 @@ gain-spec =
     tie.close
     (tie.spec
     mul-copy-row
-    slice-aggregate-copy-row
+    (λ c. omega arith)
     copy-row-requires
-    slice-aggregate-fold-row
+    (λ c. omega arith)
     mul-fold-row
     fold-row-requires
-    same-length
+    (λ c. search needs)
     returns)

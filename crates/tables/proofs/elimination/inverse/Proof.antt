@@ -6,12 +6,6 @@ use borrow.Author.Needs.{needs}
 use Rattle.tables.proofs.elimination.inverse.Statement.{statement}
 use Rattle.tables.proofs.elimination.inverse.Tie as tie
 
-slice-aggregate-solve : tie.Need-slice-aggregate-solve
-slice-aggregate-solve c = omega arith
-
-slice-aggregate-solve-2 : tie.Need-slice-aggregate-solve-2
-slice-aggregate-solve-2 c = omega arith
-
 solve-requires : tie.Need-solve-requires
 solve-requires c κs =
     let s = c .before .before .pre in
@@ -19,9 +13,6 @@ solve-requires c κs =
 
 mul-widen : tie.Need-mul-widen
 mul-widen c = let s = c .before .before .before .before .before .pre in omega (arith, square-small (s .0 .order .upto), s .1 .1)
-
-slice-aggregate-widen : tie.Need-slice-aggregate-widen
-slice-aggregate-widen c = omega arith
 
 mul-widen-2 : tie.Need-mul-widen-2
 mul-widen-2 c = let s = c .before .before .before .before .before .before .before .pre in omega (arith, square-small (s .0 .order .upto), s .1 .1)
@@ -34,9 +25,6 @@ widen-requires c κs =
     let s = c .before .before .before .before .before .before .before .pre in
     (omega (arith, fresh (s .0 .order .upto) .long-c, c .before .before .before .before .solve .ensures .0), s .1 .1)
 
-same-length : tie.Need-same-length
-same-length c = search needs
-
 returns : tie.Need-returns
 returns c =
     let g = c .before .before .before .before .before .before .before .before .before .args in
@@ -48,13 +36,13 @@ pub inverse-spec : {M : Type 1} → statement M
 inverse-spec =
     tie.close
     (tie.spec
-    slice-aggregate-solve
-    slice-aggregate-solve-2
+    (λ c. omega arith)
+    (λ c. omega arith)
     solve-requires
     mul-widen
-    slice-aggregate-widen
+    (λ c. omega arith)
     mul-widen-2
     mul-widen-3
     widen-requires
-    same-length
+    (λ c. search needs)
     returns)

@@ -15,20 +15,11 @@ gain-requires c κs = search needs
 gain-requires-2 : tie.Need-gain-requires-2
 gain-requires-2 c κs = search needs
 
-same-length : tie.Need-same-length
-same-length c = search needs
-
-same-length-2 : tie.Need-same-length-2
-same-length-2 c = search needs
-
 returns : tie.Need-returns
 returns c =
     let s = c .before .before .before .before .before .before .before .before .before .before .before .before .before .pre .0 in
     let v = c .before .before .before .before .before .before .before .before .before .pivot .ensures in
     lead-gain (s .1) (v .1) (s .0) (v .0) (record { quot = pos (2 ^ 31); eqn = refl }) (c .before .before .before .before .before .before .before .before .if1 .taken) (c .before .before .before .before .before .before .gain .ensures) (c .before .before .gain2 .ensures)
-
-same-length-3 : tie.Need-same-length-3
-same-length-3 c = search needs
 
 returns-2 : tie.Need-returns-2
 returns-2 c =
@@ -43,8 +34,8 @@ lead-spec =
     pivot-requires
     gain-requires
     gain-requires-2
-    same-length
-    same-length-2
+    (λ c. search needs)
+    (λ c. search needs)
     returns
-    same-length-3
+    (λ c. search needs)
     returns-2)

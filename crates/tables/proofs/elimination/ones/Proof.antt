@@ -27,12 +27,6 @@ mul-c-2 c = let h : c .before .loop .i < c .before .before .args .n = omega arit
 slice-write-c : tie.Need-slice-write-c Inv-loop μ-loop
 slice-write-c c = let h : c .before .loop .i < c .before .before .args .n = omega arith in omega (arith, digits-lt h h, c .before .loop .inv .1 .long)
 
-add-i : tie.Need-add-i Inv-loop μ-loop
-add-i c = omega arith
-
-loop-less : tie.Need-loop-less Inv-loop μ-loop
-loop-less c = omega arith
-
 loop-again : tie.Need-loop-again Inv-loop μ-loop
 loop-again c = (omega arith, diagonal-more (omega arith) (omega arith) (c .before .loop .inv .1))
 
@@ -53,8 +47,8 @@ ones-spec =
     add-c
     mul-c-2
     slice-write-c
-    add-i
-    loop-less
+    (λ c. omega arith)
+    (λ c. omega arith)
     loop-again
     same-length
     returns)

@@ -33,12 +33,6 @@ mul-scale-row-2 c = let s = c .before .before .before .before .before .before .b
 scale-row-requires-2 : tie.Need-scale-row-requires-2
 scale-row-requires-2 c κs = let s = c .before .before .before .before .before .before .before .before .before .pre .0 in omega (arith, row-end (s .0), s .1 .long-p)
 
-same-length : tie.Need-same-length
-same-length c = search needs
-
-same-length-2 : tie.Need-same-length-2
-same-length-2 c = search needs
-
 returns : tie.Need-returns
 returns c =
     let s = c .before .before .before .before .before .before .before .before .before .before .before .before .pre .0 in
@@ -57,6 +51,6 @@ scale-spec =
     scale-row-requires
     mul-scale-row-2
     scale-row-requires-2
-    same-length
-    same-length-2
+    (λ c. search needs)
+    (λ c. search needs)
     returns)

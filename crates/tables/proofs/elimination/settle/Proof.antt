@@ -11,12 +11,6 @@ scale-requires c κs = search needs
 clear-requires : tie.Need-clear-requires
 clear-requires c κs = search needs
 
-same-length : tie.Need-same-length
-same-length c = search needs
-
-same-length-2 : tie.Need-same-length-2
-same-length-2 c = search needs
-
 returns : tie.Need-returns
 returns c =
     let a = c .before .before .before .before .before .before .before .before .before .before .before .before .before .before .before .before .before .before .lead .ensures in
@@ -27,4 +21,4 @@ returns c =
 pub settle-spec : {M : Type 1} → statement M
 settle-spec =
     tie.close
-    (tie.spec lead-requires scale-requires clear-requires same-length same-length-2 returns)
+    (tie.spec lead-requires scale-requires clear-requires (λ c. search needs) (λ c. search needs) returns)

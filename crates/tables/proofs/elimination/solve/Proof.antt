@@ -58,12 +58,6 @@ settle-requires c κs =
     let A = entries n (s .args .a .now) in
     ((omega arith, q .0), λ none. stuck 2 (record { quot = pos (2 ^ 31); eqn = refl }) (omega arith) (omega arith) (q .1) none (has-turned 2 n A (s .pre .0 .1)))
 
-add-r : tie.Need-add-r Inv-loop μ-loop
-add-r c = omega arith
-
-loop-less : tie.Need-loop-less Inv-loop μ-loop
-loop-less c = omega arith
-
 loop-again : tie.Need-loop-again Inv-loop μ-loop
 loop-again c =
     let v = c .before .before .before .before .before .before .before .before .loop .inv .1 in
@@ -94,8 +88,8 @@ solve-spec =
     take-requires
     loop-holds
     settle-requires
-    add-r
-    loop-less
+    (λ c. omega arith)
+    (λ c. omega arith)
     loop-again
     same-length
     same-length-2

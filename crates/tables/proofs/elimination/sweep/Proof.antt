@@ -65,12 +65,6 @@ fold-row-requires-2 c κs =
     let q = t .before .loop .inv .1 in
     omega (arith, row-in t, q .held-p .long, q .spans .long-p)
 
-add-d : tie.Need-add-d Inv-loop μ-loop
-add-d c = omega arith
-
-loop-less : tie.Need-loop-less Inv-loop μ-loop
-loop-less c = omega arith
-
 abbrev Goal : tie.Joined1 Inv-loop μ-loop → List ℕ → List ℕ → Type 0
 Goal c x y =
     let g = c .before .before .before .before .before .before .before .args in
@@ -112,8 +106,8 @@ sweep-spec =
     fold-row-requires
     mul-fold-row-2
     fold-row-requires-2
-    add-d
-    loop-less
+    (λ c. omega arith)
+    (λ c. omega arith)
     loop-again
     same-length
     same-length-2

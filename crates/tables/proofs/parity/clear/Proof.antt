@@ -16,23 +16,11 @@ abbrev μ-loop : tie.MeasureT-loop
 loop-holds : tie.Need-loop-holds Inv-loop μ-loop
 loop-holds c = (omega arith, words-none (c .pre .0 .1) (c .pre .1))
 
-mul-bit : tie.Need-mul-bit Inv-loop μ-loop
-mul-bit c = omega arith
-
-element-copy-out-bit : tie.Need-element-copy-out-bit Inv-loop μ-loop
-element-copy-out-bit c = omega arith
-
 bit-requires : tie.Need-bit-requires Inv-loop μ-loop
 bit-requires c κs = omega arith
 
 join-requires : tie.Need-join-requires Inv-loop μ-loop
 join-requires c κs = omega arith
-
-add-m : tie.Need-add-m Inv-loop μ-loop
-add-m c = omega arith
-
-loop-less : tie.Need-loop-less Inv-loop μ-loop
-loop-less c = omega arith
 
 abbrev Goal : tie.Joined1 Inv-loop μ-loop → List ℕ → Type 0
 Goal c x =
@@ -59,11 +47,11 @@ clear-spec =
     Inv-loop
     μ-loop
     loop-holds
-    mul-bit
-    element-copy-out-bit
+    (λ c. omega arith)
+    (λ c. omega arith)
     bit-requires
     join-requires
-    add-m
-    loop-less
+    (λ c. omega arith)
+    (λ c. omega arith)
     loop-again
     returns)

@@ -37,18 +37,6 @@ shared-slice-copy-out-x c = let h : c .before .loop .i < c .before .before .args
 odd-requires : tie.Need-odd-requires Inv-loop μ-loop
 odd-requires c κs = search needs
 
-cast-w : tie.Need-cast-w Inv-loop μ-loop
-cast-w c = omega arith
-
-shl-w : tie.Need-shl-w Inv-loop μ-loop
-shl-w c = omega arith
-
-add-i : tie.Need-add-i Inv-loop μ-loop
-add-i c = omega arith
-
-loop-less : tie.Need-loop-less Inv-loop μ-loop
-loop-less c = omega arith
-
 loop-again : tie.Need-loop-again Inv-loop μ-loop
 loop-again c =
     let l = c .before .before .before .before in
@@ -77,9 +65,9 @@ column-spec =
     mul-x-2
     shared-slice-copy-out-x
     odd-requires
-    cast-w
-    shl-w
-    add-i
-    loop-less
+    (λ c. omega arith)
+    (λ c. omega arith)
+    (λ c. omega arith)
+    (λ c. omega arith)
     loop-again
     returns)

@@ -34,12 +34,6 @@ returns c =
     say-no (stuck 2 (record { quot = pos 1; eqn = refl }) (omega arith) (omega arith) (c .before .before .before .before .loop .inv .1 .1 .going)
     (c .before .settle .ensures .1 .no (not-true _ (c .if1 .taken))))
 
-add-r : tie.Need-add-r Inv-loop μ-loop
-add-r c = omega arith
-
-loop-less : tie.Need-loop-less Inv-loop μ-loop
-loop-less c = omega arith
-
 loop-again : tie.Need-loop-again Inv-loop μ-loop
 loop-again c =
     let s = c .before .settle .ensures in (
@@ -60,7 +54,7 @@ has-inverse-spec =
     loop-holds
     settle-requires
     returns
-    add-r
-    loop-less
+    (λ c. omega arith)
+    (λ c. omega arith)
     loop-again
     returns-2)

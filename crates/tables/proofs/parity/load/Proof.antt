@@ -19,18 +19,6 @@ loop-holds c = (omega arith, (c .pre .1, fill-none _))
 column-requires : tie.Need-column-requires Inv-loop μ-loop
 column-requires c κs = omega arith
 
-mul-p : tie.Need-mul-p Inv-loop μ-loop
-mul-p c = omega arith
-
-element-write-p : tie.Need-element-write-p Inv-loop μ-loop
-element-write-p c = omega arith
-
-add-j : tie.Need-add-j Inv-loop μ-loop
-add-j c = omega arith
-
-loop-less : tie.Need-loop-less Inv-loop μ-loop
-loop-less c = omega arith
-
 loop-again : tie.Need-loop-again Inv-loop μ-loop
 loop-again c =
     let v = c .before .before .loop .inv .1 in
@@ -47,9 +35,9 @@ load-spec =
     μ-loop
     loop-holds
     column-requires
-    mul-p
-    element-write-p
-    add-j
-    loop-less
+    (λ c. omega arith)
+    (λ c. omega arith)
+    (λ c. omega arith)
+    (λ c. omega arith)
     loop-again
     returns)

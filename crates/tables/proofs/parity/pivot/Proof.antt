@@ -20,12 +20,6 @@ abbrev μ-loop : tie.MeasureT-loop
 loop-holds : tie.Need-loop-holds Inv-loop μ-loop
 loop-holds c = (omega arith, (omega arith, λ j h k. absurd (omega arith)))
 
-mul-bit : tie.Need-mul-bit Inv-loop μ-loop
-mul-bit c = omega arith
-
-element-copy-out-bit : tie.Need-element-copy-out-bit Inv-loop μ-loop
-element-copy-out-bit c = omega arith
-
 bit-requires : tie.Need-bit-requires Inv-loop μ-loop
 bit-requires c κs = omega arith
 
@@ -36,12 +30,6 @@ returns c = record {
   none = c .before .before .before .before .loop .inv .1 .1;
   some = λ h. not-multiple (omega arith) (λ e. c .if1 .taken (c .before .bit .ensures ∙ sym (mod-mod _ 2) ∙ e));
 }
-
-add-s : tie.Need-add-s Inv-loop μ-loop
-add-s c = omega arith
-
-loop-less : tie.Need-loop-less Inv-loop μ-loop
-loop-less c = omega arith
 
 loop-again : tie.Need-loop-again Inv-loop μ-loop
 loop-again c =
@@ -59,11 +47,11 @@ pivot-spec =
     Inv-loop
     μ-loop
     loop-holds
-    mul-bit
-    element-copy-out-bit
+    (λ c. omega arith)
+    (λ c. omega arith)
     bit-requires
     returns
-    add-s
-    loop-less
+    (λ c. omega arith)
+    (λ c. omega arith)
     loop-again
     returns-2)

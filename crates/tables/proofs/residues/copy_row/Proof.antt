@@ -17,27 +17,6 @@ abbrev μ-loop : tie.MeasureT-loop
 loop-holds : tie.Need-loop-holds Inv-loop μ-loop
 loop-holds c = (omega arith, wrote-none _ _ _)
 
-add-row : tie.Need-add-row Inv-loop μ-loop
-add-row c = omega arith
-
-mul-row : tie.Need-mul-row Inv-loop μ-loop
-mul-row c = omega arith
-
-shared-slice-read-row : tie.Need-shared-slice-read-row Inv-loop μ-loop
-shared-slice-read-row c = omega arith
-
-mul-row-2 : tie.Need-mul-row-2 Inv-loop μ-loop
-mul-row-2 c = omega arith
-
-slice-write-row : tie.Need-slice-write-row Inv-loop μ-loop
-slice-write-row c = omega arith
-
-add-j : tie.Need-add-j Inv-loop μ-loop
-add-j c = omega arith
-
-loop-less : tie.Need-loop-less Inv-loop μ-loop
-loop-less c = omega arith
-
 loop-again : tie.Need-loop-again Inv-loop μ-loop
 loop-again c = (omega arith, rw zero-add at (wrote-more _ 0 _ _ _ _ (omega arith) refl (c .before .before .loop .inv .1)))
 
@@ -54,13 +33,13 @@ copy-row-spec =
     Inv-loop
     μ-loop
     loop-holds
-    add-row
-    mul-row
-    shared-slice-read-row
-    mul-row-2
-    slice-write-row
-    add-j
-    loop-less
+    (λ c. omega arith)
+    (λ c. omega arith)
+    (λ c. omega arith)
+    (λ c. omega arith)
+    (λ c. omega arith)
+    (λ c. omega arith)
+    (λ c. omega arith)
     loop-again
     same-length
     returns)

@@ -17,41 +17,8 @@ abbrev μ-loop : tie.MeasureT-loop
 loop-holds : tie.Need-loop-holds Inv-loop μ-loop
 loop-holds c = (omega arith, wrote-none _ _ _)
 
-add-fold : tie.Need-add-fold Inv-loop μ-loop
-add-fold c = omega arith
-
-mul-fold : tie.Need-mul-fold Inv-loop μ-loop
-mul-fold c = omega arith
-
-slice-read-fold : tie.Need-slice-read-fold Inv-loop μ-loop
-slice-read-fold c = omega arith
-
-add-fold-2 : tie.Need-add-fold-2 Inv-loop μ-loop
-add-fold-2 c = omega arith
-
-mul-fold-2 : tie.Need-mul-fold-2 Inv-loop μ-loop
-mul-fold-2 c = omega arith
-
-shared-slice-read-fold : tie.Need-shared-slice-read-fold Inv-loop μ-loop
-shared-slice-read-fold c = omega arith
-
 fold-requires : tie.Need-fold-requires Inv-loop μ-loop
 fold-requires c κs = search needs
-
-add-z : tie.Need-add-z Inv-loop μ-loop
-add-z c = omega arith
-
-mul-z : tie.Need-mul-z Inv-loop μ-loop
-mul-z c = omega arith
-
-slice-write-z : tie.Need-slice-write-z Inv-loop μ-loop
-slice-write-z c = omega arith
-
-add-j : tie.Need-add-j Inv-loop μ-loop
-add-j c = omega arith
-
-loop-less : tie.Need-loop-less Inv-loop μ-loop
-loop-less c = omega arith
 
 loop-again : tie.Need-loop-again Inv-loop μ-loop
 loop-again c =
@@ -74,18 +41,18 @@ fold-row-spec =
     Inv-loop
     μ-loop
     loop-holds
-    add-fold
-    mul-fold
-    slice-read-fold
-    add-fold-2
-    mul-fold-2
-    shared-slice-read-fold
+    (λ c. omega arith)
+    (λ c. omega arith)
+    (λ c. omega arith)
+    (λ c. omega arith)
+    (λ c. omega arith)
+    (λ c. omega arith)
     fold-requires
-    add-z
-    mul-z
-    slice-write-z
-    add-j
-    loop-less
+    (λ c. omega arith)
+    (λ c. omega arith)
+    (λ c. omega arith)
+    (λ c. omega arith)
+    (λ c. omega arith)
     loop-again
     same-length
     returns)

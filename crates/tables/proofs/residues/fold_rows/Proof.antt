@@ -30,12 +30,6 @@ fold-row-requires c κs =
     let r = fold-rooms (s .pre) (c .before .before .loop-test .taken) in
     (r .0, omega (arith, s .pre .target, l .loop .inv .wrote .long))
 
-add-k : tie.Need-add-k Inv-loop μ-loop
-add-k c = omega arith
-
-loop-less : tie.Need-loop-less Inv-loop μ-loop
-loop-less c = omega arith
-
 loop-again : tie.Need-loop-again Inv-loop μ-loop
 loop-again c =
     let l = c .before .before .before .before .before .before in
@@ -60,8 +54,8 @@ fold-rows-spec =
     shared-slice-read-fold-row
     mul-fold-row-2
     fold-row-requires
-    add-k
-    loop-less
+    (λ c. omega arith)
+    (λ c. omega arith)
     loop-again
     same-length
     returns)

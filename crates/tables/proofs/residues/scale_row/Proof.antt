@@ -17,32 +17,8 @@ abbrev μ-loop : tie.MeasureT-loop
 loop-holds : tie.Need-loop-holds Inv-loop μ-loop
 loop-holds c = (omega arith, wrote-none _ _ _)
 
-add-fold : tie.Need-add-fold Inv-loop μ-loop
-add-fold c = omega arith
-
-mul-fold : tie.Need-mul-fold Inv-loop μ-loop
-mul-fold c = omega arith
-
-slice-read-fold : tie.Need-slice-read-fold Inv-loop μ-loop
-slice-read-fold c = omega arith
-
 fold-requires : tie.Need-fold-requires Inv-loop μ-loop
 fold-requires c κs = search needs
-
-add-t : tie.Need-add-t Inv-loop μ-loop
-add-t c = omega arith
-
-mul-t : tie.Need-mul-t Inv-loop μ-loop
-mul-t c = omega arith
-
-slice-write-t : tie.Need-slice-write-t Inv-loop μ-loop
-slice-write-t c = omega arith
-
-add-j : tie.Need-add-j Inv-loop μ-loop
-add-j c = omega arith
-
-loop-less : tie.Need-loop-less Inv-loop μ-loop
-loop-less c = omega arith
 
 loop-again : tie.Need-loop-again Inv-loop μ-loop
 loop-again c =
@@ -63,15 +39,15 @@ scale-row-spec =
     Inv-loop
     μ-loop
     loop-holds
-    add-fold
-    mul-fold
-    slice-read-fold
+    (λ c. omega arith)
+    (λ c. omega arith)
+    (λ c. omega arith)
     fold-requires
-    add-t
-    mul-t
-    slice-write-t
-    add-j
-    loop-less
+    (λ c. omega arith)
+    (λ c. omega arith)
+    (λ c. omega arith)
+    (λ c. omega arith)
+    (λ c. omega arith)
     loop-again
     same-length
     returns)

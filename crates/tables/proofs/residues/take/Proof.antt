@@ -19,32 +19,11 @@ abbrev μ-loop : tie.MeasureT-loop
 loop-holds : tie.Need-loop-holds Inv-loop μ-loop
 loop-holds c = (omega arith, wrote-none _ _ _)
 
-add-residue : tie.Need-add-residue Inv-loop μ-loop
-add-residue c = omega arith
-
-mul-residue : tie.Need-mul-residue Inv-loop μ-loop
-mul-residue c = omega arith
-
-shared-slice-copy-out-residue : tie.Need-shared-slice-copy-out-residue Inv-loop μ-loop
-shared-slice-copy-out-residue c = omega arith
-
 residue-requires : tie.Need-residue-requires Inv-loop μ-loop
 residue-requires c κs =
     let l = c .before .before in
     let g = l .before .before .args in
     simp (rd-ok (getD (g .a .now) (g .p + l .loop .q) (pos 0)) (c .residue-arg .given)) (l .before .before .pre .low (l .loop .q) (c .before .loop-test .taken))
-
-mul-t : tie.Need-mul-t Inv-loop μ-loop
-mul-t c = omega arith
-
-slice-write-t : tie.Need-slice-write-t Inv-loop μ-loop
-slice-write-t c = omega arith
-
-add-q : tie.Need-add-q Inv-loop μ-loop
-add-q c = omega arith
-
-loop-less : tie.Need-loop-less Inv-loop μ-loop
-loop-less c = omega arith
 
 loop-again : tie.Need-loop-again Inv-loop μ-loop
 loop-again c =
@@ -67,14 +46,14 @@ take-spec =
     Inv-loop
     μ-loop
     loop-holds
-    add-residue
-    mul-residue
-    shared-slice-copy-out-residue
+    (λ c. omega arith)
+    (λ c. omega arith)
+    (λ c. omega arith)
     residue-requires
-    mul-t
-    slice-write-t
-    add-q
-    loop-less
+    (λ c. omega arith)
+    (λ c. omega arith)
+    (λ c. omega arith)
+    (λ c. omega arith)
     loop-again
     same-length
     returns)

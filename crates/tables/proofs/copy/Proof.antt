@@ -8,8 +8,8 @@ use mathlib.Core.Logic.{_≢_}
 use Rattle.tables.specs.Buffer.{Copied}
 use lib.Seq.{getD-set-same, getD-set-other}
 use borrow.Author.Count.{below-more}
-use Rattle.tables.proofs.blocks.copy.Statement.{statement}
-use Rattle.tables.proofs.blocks.copy.Tie as tie
+use Rattle.tables.proofs.copy.Statement.{statement}
+use Rattle.tables.proofs.copy.Tie as tie
 
 abbrev Inv-loop : tie.InvT-loop
 Inv-loop m a buf₀ t₀ buf t = (t ≤ m) × Copied t a buf₀ buf
@@ -53,24 +53,6 @@ returns c =
     let e : c .before .loop .t ≡ c .before .before .args .m = omega arith in
     rw e at (c .before .loop .inv .1)
 
-mul-buf : tie.Need-mul-buf Inv-loop μ-loop
-mul-buf c = omega arith
-
-shared-slice-copy-out-buf : tie.Need-shared-slice-copy-out-buf Inv-loop μ-loop
-shared-slice-copy-out-buf c = omega arith
-
-mul-t9 : tie.Need-mul-t9 Inv-loop μ-loop
-mul-t9 c = omega arith
-
-slice-set-from-buf : tie.Need-slice-set-from-buf Inv-loop μ-loop
-slice-set-from-buf c = omega arith
-
-add-t : tie.Need-add-t Inv-loop μ-loop
-add-t c = omega arith
-
-loop-less : tie.Need-loop-less Inv-loop μ-loop
-loop-less c = omega arith
-
 pub copy-spec : {M : Type 1} → statement M
 copy-spec =
     tie.close
@@ -78,12 +60,12 @@ copy-spec =
     Inv-loop
     μ-loop
     loop-holds
-    mul-buf
-    shared-slice-copy-out-buf
-    mul-t9
-    slice-set-from-buf
-    add-t
-    loop-less
+    (λ c. omega arith)
+    (λ c. omega arith)
+    (λ c. omega arith)
+    (λ c. omega arith)
+    (λ c. omega arith)
+    (λ c. omega arith)
     loop-again
     same-length
     returns)
