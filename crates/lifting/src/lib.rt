@@ -20,7 +20,7 @@ pub fn lift(n: usize, lifts: usize, exponent: u32, table: &[i64], expansion: &mu
     if bad != 0 {
         return bad;
     }
-    if !tables::parity::has_inverse(n, table) {
+    if !eliminations::parity::has_inverse(n, table) {
         return 6;
     }
     start(n, exponent, table, expansion);
@@ -57,7 +57,7 @@ pub fn start(n: usize, e: u32, a: &[i64], buf: &mut [i64])
     requires { ⌜ ToStart n 2 (2 ^ e) (now a) (now buf) ⌝ }
     ensures { λ _. ⌜ Started n (2 ^ e) (entries n (now (a .entry))) (now (buf .entry)) (now (buf .exit)) ⌝ }
 {
-    tables::elimination::inverse(n, a, buf, 0);
+    eliminations::inverting::inverse(n, a, buf, 0);
     base(n, e, a, buf);
 }
 
@@ -66,9 +66,9 @@ pub fn base(n: usize, e: u32, a: &[i64], buf: &mut [i64])
     requires { ⌜ ToBase n (2 ^ e) (now a) (now buf) ⌝ }
     ensures { λ _. ⌜ Started n (2 ^ e) (entries n (now (a .entry))) (now (buf .entry)) (now (buf .exit)) ⌝ }
 {
-    tables::blocks::identity(n, buf, 1);
-    tables::blocks::balance(n, e, buf, 0);
-    tables::blocks::shrink(n, e, a, buf, 0, 1);
+    kernels::blocks::identity(n, buf, 1);
+    kernels::blocks::balance(n, e, buf, 0);
+    kernels::blocks::shrink(n, e, a, buf, 0, 1);
 }
 
 // From B_0 in block 0 and R_i in block r: M_i in block m and R_{i+1} in block s.
@@ -76,7 +76,7 @@ pub fn step(n: usize, e: u32, a: &[i64], buf: &mut [i64], r: usize, m: usize, s:
     requires { ⌜ ToStep n (2 ^ e) (now a) (now buf) r m s ⌝ }
     ensures { λ _. ⌜ Stepped n (2 ^ e) (entries n (now (a .entry))) (now (buf .entry)) (now (buf .exit)) r m s ⌝ }
 {
-    tables::blocks::product(n, buf, r, r, s);
+    kernels::blocks::product(n, buf, r, r, s);
     digit(n, e, a, buf, s, m);
 }
 
@@ -85,8 +85,8 @@ pub fn digit(n: usize, e: u32, a: &[i64], buf: &mut [i64], r: usize, d: usize)
     requires { ⌜ ToDigit n (2 ^ e) (now a) (now buf) r d ⌝ }
     ensures { λ _. ⌜ Digited n (2 ^ e) (entries n (now (a .entry))) (now (buf .entry)) (now (buf .exit)) r d ⌝ }
 {
-    tables::blocks::remain(n, e, buf, 0, r, d);
-    tables::blocks::shrink(n, e, a, buf, d, r);
+    kernels::blocks::remain(n, e, buf, 0, r, d);
+    kernels::blocks::shrink(n, e, a, buf, d, r);
 }
 
 // The same for the first column of that residue alone; nothing is said of the other columns of blocks d and r.
@@ -94,8 +94,8 @@ pub fn column_digit(n: usize, e: u32, a: &[i64], buf: &mut [i64], r: usize, d: u
     requires { ⌜ ToColumnDigit n (2 ^ e) (now a) (now buf) r d ⌝ }
     ensures { λ _. ⌜ ColumnDigited n (2 ^ e) (now (a .entry)) (now (buf .entry)) (now (buf .exit)) r d ⌝ }
 {
-    tables::columns::remain(n, e, buf, 0, r, d);
-    tables::columns::shrink(n, e, a, buf, d, r);
+    kernels::columns::remain(n, e, buf, 0, r, d);
+    kernels::columns::shrink(n, e, a, buf, d, r);
 }
 
 // The first number from 1 to 5 that applies, or 0; size is the length of the lent expansion.

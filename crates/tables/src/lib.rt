@@ -1,16 +1,11 @@
-// Square tables of whole numbers: the view of a row, the checks of a lent table, and the work on tables in a buffer.
+// Square tables of whole numbers: the view of a row, the checks of a lent table, a copy, and rows of residues (residues.rt).
 ghost use Prim.Native.Nat.{_+_, _≤_};
 ghost use lib.ListN.{length};
 ghost use Rattle.numbers.specs.Says.{Tells};
 ghost use Rattle.tables.specs.Buffer.{Copied};
 ghost use Rattle.tables.specs.Views.{Stretch, HasRow, RowGives};
 
-pub mod block_residues;
-pub mod blocks;
 pub mod checks;
-pub mod columns;
-pub mod elimination;
-pub mod parity;
 pub mod residues;
 
 // Row i (from 0) of a table of order n, as a part of the caller's own buffer; or the empty stretch at its start.

@@ -11,7 +11,7 @@ use lib.ListN.{length}
 use Rattle.numbers.specs.Limits.{IsOrder}
 use Rattle.numbers.proofs.Algebra.Sum.{δ}
 use Rattle.tables.specs.Tables.{_≈⟨_⟩_, block, entries, height}
-use Rattle.tables.specs.Columns.{ColumnPut, ColumnZero, ToCopy}
+use Rattle.kernels.specs.Columns.{ColumnPut, ColumnZero, ToCopy}
 use Rattle.tables.proofs.Algebra.Matrix.{≈-refl, ≈-sym, ≈-trans}
 use Rattle.tables.proofs.Checking.Heights.{height-one, entries-low}
 use Rattle.tables.proofs.Inverses.Residue.{bound-power}

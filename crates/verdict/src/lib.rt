@@ -63,7 +63,7 @@ fn find(n: usize, e: u32, k: u32, a: &[i64], buf: &mut [i64]) -> Finding
     requires { ⌜ length (now buf) ≡ 4096 ⌝ }
     ensures { λ r. ⌜ Found n (2 ^ e) (now (a .entry)) (now (buf .exit)) r ⌝ }
 {
-    if !tables::parity::has_inverse(n, a) {
+    if !eliminations::parity::has_inverse(n, a) {
         return Finding::NoneModulo2;
     }
     lifting::start(n, e, a, buf);
@@ -74,7 +74,7 @@ fn find(n: usize, e: u32, k: u32, a: &[i64], buf: &mut [i64]) -> Finding
     let mut s: usize = 2;
     let mut t: u32 = 0;
     while t < k {
-        if tables::blocks::vanishes(n, buf, r) {
+        if kernels::blocks::vanishes(n, buf, r) {
             return Finding::Whole;
         }
         lifting::step(n, e, a, buf, r, 3, s);
@@ -83,7 +83,7 @@ fn find(n: usize, e: u32, k: u32, a: &[i64], buf: &mut [i64]) -> Finding
         s = q;
         t += 1;
     }
-    let gone = tables::blocks::vanishes(n, buf, r);
+    let gone = kernels::blocks::vanishes(n, buf, r);
     if gone {
         return Finding::Whole;
     }
@@ -98,16 +98,16 @@ fn fails(n: usize, e: u32, a: &[i64], buf: &mut [i64]) -> bool
     requires { ⌜ IsStart n (2 ^ e) (entries n (now a)) (block n (now buf) 0) (block n (now buf) 1) ⌝ }
     ensures { λ r. ⌜ Fails n (now (a .entry)) (now (buf .entry)) r (now (buf .exit)) ⌝ }
 {
-    tables::columns::copy(n, buf, 1, 2);
+    kernels::columns::copy(n, buf, 1, 2);
     let mut t: usize = 1;
     while t < n {
-        if tables::columns::vanishes(n, buf, 2) {
+        if kernels::columns::vanishes(n, buf, 2) {
             return false;
         }
         lifting::column_digit(n, e, a, buf, 2, 3);
         t += 1;
     }
-    if tables::columns::vanishes(n, buf, 2) {
+    if kernels::columns::vanishes(n, buf, 2) {
         return false;
     }
     true
@@ -161,17 +161,17 @@ fn digits(n: usize, e: u32, a: &[i64], buf: &mut [i64]) -> bool
     ensures { λ r. ⌜ Says (Summed n (now (a .entry)) (now (buf .exit))) (NoneNarrow n (now (a .entry))) r ⌝ }
 {
     lifting::base(n, e, a, buf);
-    if tables::blocks::vanishes(n, buf, 1) {
+    if kernels::blocks::vanishes(n, buf, 1) {
         return true;
     }
     lifting::digit(n, e, a, buf, 1, 2);
-    if !tables::blocks::vanishes(n, buf, 1) {
+    if !kernels::blocks::vanishes(n, buf, 1) {
         return false;
     }
-    if !tables::blocks::within(n, buf, 2, 8388608) {
+    if !kernels::blocks::within(n, buf, 2, 8388608) {
         return false;
     }
-    tables::blocks::extend(n, e, buf, 0, 2);
+    kernels::blocks::extend(n, e, buf, 0, 2);
     true
 }
 
@@ -180,7 +180,7 @@ fn narrow(n: usize, buf: &[i64]) -> bool
     requires { ⌜ IsOrder n × (length (now buf) ≡ 4096) ⌝ }
     ensures { λ r. ⌜ Tells (Narrow n (block n (now (buf .entry)) 0)) r ⌝ }
 {
-    tables::blocks::within(n, buf, 0, numbers::WIDTH)
+    kernels::blocks::within(n, buf, 0, numbers::WIDTH)
 }
 
 // From B_0 at the exponent e in block 0: the whole inverse there, where it is narrow.

@@ -10,8 +10,8 @@ use Rattle.numbers.proofs.Algebra.Sum.{sum-cong}
 use Rattle.numbers.proofs.Remainders.Remainder.{rem-is, balanced-size}
 use Rattle.numbers.proofs.Remainders.Moduli.{suits-modulus}
 use Rattle.tables.specs.Tables.{Matrix, _·⟨_⟩_, block, entries}
-use Rattle.tables.specs.Kernels.{shrunk}
-use Rattle.tables.specs.Columns.{ColumnPut, ToRemain, ToShrink}
+use Rattle.kernels.specs.Kernels.{shrunk}
+use Rattle.kernels.specs.Columns.{ColumnPut, ToRemain, ToShrink}
 use Rattle.tables.proofs.Algebra.Matrix.{≈-trans}
 use Rattle.lifting.specs.Steps.{Setting, SameColumn, digitOf, ToColumnDigit, ColumnDigited}
 use Rattle.lifting.proofs.Calls.Sizes.{low-entries, setting-some}

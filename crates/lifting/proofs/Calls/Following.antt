@@ -9,7 +9,7 @@ use lib.IntN.{ℤ, natAbs}
 use lib.ListN.{length}
 use Rattle.tables.specs.Tables.{Matrix, Below, _≈⟨_⟩_, block, entries, height}
 use Rattle.tables.specs.Buffer.{Low, Has}
-use Rattle.tables.specs.Columns.{ColumnLow}
+use Rattle.kernels.specs.Columns.{ColumnLow}
 use Rattle.tables.proofs.Algebra.Matrix.{≈-refl, ≈-sym, ≈-trans}
 use Rattle.lifting.specs.Linear.{IsLinear}
 use Rattle.lifting.specs.Steps.{Stage, SameColumn, nextResidue, ToColumnDigit, ColumnDigited}

@@ -10,7 +10,7 @@ use Rattle.numbers.specs.Numbers.{Balanced}
 use Rattle.numbers.proofs.Remainders.Remainder.{rem-is, balanced-size}
 use Rattle.tables.specs.Tables.{Matrix, Below, _·⟨_⟩_, block, entries, height}
 use Rattle.tables.specs.Buffer.{Low, Has}
-use Rattle.tables.specs.Kernels.{Product}
+use Rattle.kernels.specs.Kernels.{Product}
 use Rattle.tables.proofs.Checking.Heights.{height-at, legal-height}
 use Rattle.lifting.specs.Steps.{Setting, rems}
 use Rattle.lifting.proofs.Expansions.Stands.{Stands}

@@ -15,8 +15,8 @@ use Rattle.numbers.proofs.Remainders.Remainder.{rem-is}
 use Rattle.numbers.proofs.Algebra.Sum.{δ}
 use Rattle.tables.specs.Tables.{Matrix, _≈⟨_⟩_, _·⟨_⟩_, CongM, block, entries}
 use Rattle.tables.specs.Buffer.{Low, Has, BlockPut}
-use Rattle.tables.specs.Kernels.{Product, Remain, Balance, Shrink, shrunk}
-use Rattle.tables.specs.Inverting.{Inverted}
+use Rattle.kernels.specs.Kernels.{Product, Remain, Balance, Shrink, shrunk}
+use Rattle.eliminations.specs.Inverting.{Inverted}
 use Rattle.tables.proofs.Buffers.Bounds.{low-≈}
 use Rattle.tables.proofs.Algebra.Matrix.{≈-refl, ≈-sym, ≈-trans, ·-cong, ·-idʳ, ⊟-cong, congM-eq, congM-trans}
 use Rattle.lifting.specs.Lifting.{IsDigit}
