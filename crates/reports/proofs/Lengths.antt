@@ -12,7 +12,7 @@ use Rattle.numbers.specs.Limits.{IsOrder, Lawful}
 use Rattle.tables.specs.Tables.{entries}
 use Rattle.tables.specs.Buffer.{Low}
 use Rattle.tables.proofs.Buffers.Places.{square-small}
-use Rattle.tables.proofs.Buffers.Kernels.{low-flat, low-≈}
+use Rattle.tables.proofs.Buffers.Bounds.{low-flat, low-≈}
 use Rattle.tables.proofs.Buffers.Lists.{block-zero}
 use Rattle.verdict.specs.Verdict.{Narrow}
 use Rattle.verdict.specs.declared.Outcome.{Outcome}
