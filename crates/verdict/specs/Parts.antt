@@ -4,18 +4,18 @@
 --   NoneNarrow n A       no whole inverse of A is narrow
 --   Summed n A M         block 0 of the buffer M is the whole inverse of A
 --   Written n A E        E is the whole inverse of A, and narrow
---   Wide n A L E         E is the lent buffer L as it was, and no whole inverse is narrow
+--   Stands n A o M       the inverse call answers o, and after 0 the inverse stands in the first n² numbers of the buffer M
 use mathlib.Core.Path.{_≡_}
 use mathlib.Core.Bool.{Bool, true}
 use mathlib.Core.List.{List}
-use Prim.Native.Nat.{ℕ, _≤_}
+use Prim.Native.Nat.{ℕ, _*_, _≤_}
 use lib.IntN.{ℤ}
-use lib.ListN.{length}
+use lib.ListN.{length, take}
 use Rattle.numbers.specs.Numbers.{δ}
 use Rattle.tables.specs.Tables.{Matrix, _≈⟨_⟩_, _·⟨_⟩_, entries, block, HasWholeInverse}
 use Rattle.lifting.specs.Steps.{Stage}
 use Rattle.verdict.specs.declared.Outcome.{Outcome}
-use Rattle.verdict.specs.Verdict.{Narrow, IsInverse}
+use Rattle.verdict.specs.Verdict.{Narrow, IsInverse, InverseGives}
 
 pub record Fails (n : ℕ) (A old : List ℤ) (b : Bool) (new : List ℤ) : Type 0 where
   pub long : length new ≡ length old
@@ -35,6 +35,6 @@ pub record Written (n : ℕ) (A E : List ℤ) : Type 0 where
   pub inverse : IsInverse n (entries n A) E
   pub narrow : Narrow n (entries n E)
 
-pub record Wide (n : ℕ) (A L E : List ℤ) : Type 0 where
-  pub kept : E ≡ L
-  pub wide : NoneNarrow n A
+pub record Stands (n : ℕ) (A : List ℤ) (o : Outcome) (M : List ℤ) : Type 0 where
+  -- (as if these numbers were the output: of an output the number tells the length alone)
+  pub gives : InverseGives n A (take (n * n) M) o (take (n * n) M)

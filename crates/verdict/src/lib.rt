@@ -1,7 +1,7 @@
 // Verdict and inverse.
 ghost use mathlib.Core.Path.{_≡_};
 ghost use Prim.Native.Nat.{_*_, _^_, _<_};
-ghost use lib.ListN.{length};
+ghost use lib.ListN.{length, take};
 ghost use Rattle.tables.specs.Tables.{entries, block, HasWholeInverse};
 ghost use Rattle.numbers.specs.Limits.{IsOrder, Lawful};
 ghost use Rattle.numbers.specs.Says.{Says, Tells};
@@ -9,10 +9,13 @@ ghost use Rattle.numbers.specs.Numbers.{IsLifts};
 ghost use Rattle.lifting.specs.Lifting.{IsStart};
 ghost use Rattle.lifting.specs.Steps.{Stage};
 ghost use Rattle.verdict.specs.Verdict.{Narrow, outcomeOf, VerdictGives, InverseGives};
-ghost use Rattle.verdict.specs.Parts.{Fails, Kept, NoneNarrow, Summed, Written, Wide};
+ghost use Rattle.verdict.specs.Parts.{Fails, Kept, NoneNarrow, Summed, Written, Stands};
 
 // The width: 2^37.
 const WIDTH: u64 = 137438953472;
+
+// The buffer for the work: four blocks of the largest order.
+pub const BUFFER: usize = 4096;
 
 // The verdict: yes or no, each with exponent and lifts, or refused by a number.
 pub enum Ruling {
@@ -138,7 +141,7 @@ fn decide(n: usize, a: &[i64], buf: &mut [i64]) -> Ruling
 pub fn verdict(n: usize, table: &[i64]) -> Ruling
     ensures { λ r. ⌜ VerdictGives n (now (table .entry)) (outcomeOf r) ⌝ }
 {
-    let mut buf = [0i64; 4096];
+    let mut buf = [0i64; BUFFER];
     decide(n, table, &mut buf)
 }
 
@@ -171,21 +174,50 @@ fn narrow(n: usize, buf: &[i64]) -> bool
     tables::blocks::within(n, buf, 0, WIDTH)
 }
 
-// The whole inverse into out, where it is narrow.
-fn invert(n: usize, a: &[i64], out: &mut [i64], buf: &mut [i64]) -> bool
+// From B_0 at the exponent 32 in block 0: the whole inverse there, where it is narrow.
+fn invert(n: usize, a: &[i64], buf: &mut [i64]) -> bool
     requires { ⌜ Stage n 32 (now a) (now buf) ⌝ }
-    requires { ⌜ length (now out) ≡ n * n ⌝ }
     requires { ⌜ length (now buf) ≡ 4096 ⌝ }
-    ensures { λ done. ⌜ Says (Written n (now (a .entry)) (now (out .exit))) (Wide n (now (a .entry)) (now (out .entry)) (now (out .exit))) done ⌝ }
+    ensures { λ r. ⌜ Says (Written n (now (a .entry)) (take (n * n) (now (buf .exit)))) (NoneNarrow n (now (a .entry))) r ⌝ }
 {
     if !digits(n, a, buf) {
         return false;
     }
-    if !narrow(n, buf) {
-        return false;
+    narrow(n, buf)
+}
+
+// The inverse call in a lent buffer: after 0 the table B with A·B = I stands in block 0.
+pub fn inverse_in(n: usize, table: &[i64], buf: &mut [i64]) -> Outcome
+    requires { ⌜ IsOrder n × (length (now buf) ≡ 4096) ⌝ }
+    ensures { λ r. ⌜ Stands n (now (table .entry)) r (now (buf .exit)) ⌝ }
+{
+    match decide(n, table, buf) {
+        Ruling::Refused(k) => Outcome {
+            number: k,
+            exponent: 0,
+            lifts: 0,
+        },
+        Ruling::No { exponent, lifts } => Outcome {
+            number: 7,
+            exponent,
+            lifts,
+        },
+        Ruling::Yes { exponent, lifts } => {
+            if invert(n, table, buf) {
+                Outcome {
+                    number: 0,
+                    exponent,
+                    lifts,
+                }
+            } else {
+                Outcome {
+                    number: 8,
+                    exponent,
+                    lifts,
+                }
+            }
+        }
     }
-    tables::blocks::copy(n * n, buf, out);
-    true
 }
 
 // The table B with A·B = I, into out.
@@ -206,32 +238,11 @@ pub fn inverse(n: usize, table: &[i64], out: &mut [i64]) -> Outcome
             lifts: 0,
         };
     }
-    let mut buf = [0i64; 4096];
-    match decide(n, table, &mut buf) {
-        Ruling::Refused(k) => Outcome {
-            number: k,
-            exponent: 0,
-            lifts: 0,
-        },
-        Ruling::No { exponent, lifts } => Outcome {
-            number: 7,
-            exponent,
-            lifts,
-        },
-        Ruling::Yes { exponent, lifts } => {
-            if invert(n, table, out, &mut buf) {
-                Outcome {
-                    number: 0,
-                    exponent,
-                    lifts,
-                }
-            } else {
-                Outcome {
-                    number: 8,
-                    exponent,
-                    lifts,
-                }
-            }
-        }
+    let mut buf = [0i64; BUFFER];
+    let answer = inverse_in(n, table, &mut buf);
+    if answer.number != 0 {
+        return answer;
     }
+    tables::blocks::copy(n * n, &buf, out);
+    answer
 }

@@ -1,0 +1,49 @@
+-- The inverse in the buffer of the work: it stands in block 0, whose numbers are those of an output.
+use mathlib.Core.Path.{_≡_, refl, sym, subst, _∙_}
+use mathlib.Core.Logic.{_≢_}
+use mathlib.Core.List.{List}
+use Prim.Native.Nat.{ℕ, _*_, _<_}
+use native.Mathlib.Omega.{arith}
+use lib.IntN.{ℤ, pos}
+use lib.ListN.{length, take}
+use lib.Seq.{length-take-le, getD-take, ext-getD}
+use Rattle.numbers.specs.Limits.{IsOrder}
+use Rattle.numbers.specs.Refusals.{Gives}
+use Rattle.tables.specs.Tables.{entries, block}
+use Rattle.tables.specs.Buffer.{Copied}
+use Rattle.tables.proofs.Buffers.Places.{square-small}
+use Rattle.verdict.specs.Verdict.{Narrow, IsInverse, inverseRefusals, InverseGives}
+use Rattle.verdict.specs.Parts.{Summed, Written, Stands}
+use Rattle.verdict.specs.declared.Outcome.{Outcome}
+use Rattle.verdict.proofs.Width.{written}
+
+-- the numbers of block 0
+pub front-size : {n : ℕ} (M : List ℤ) → IsOrder n → length M ≡ 4096 → length (take (n * n) M) ≡ n * n
+front-size {n} M order long = length-take-le (n * n) M (omega (arith, square-small (order .upto)))
+
+-- they are a copy of themselves
+pub standing : {n : ℕ} {A M : List ℤ} → IsOrder n → length M ≡ 4096 → Summed n A M → Narrow n (block n M 0) → Written n A (take (n * n) M)
+standing {n} {A} {M} order long sum narrow =
+    written {O = take (n * n) M} sum (front-size M order long) narrow (record { long = refl; same = λ k h. getD-take (n * n) M k (pos 0) h; rest = λ k h. refl })
+
+-- an output counts by its length alone: what stands is what the inverse call gives in any output of n² numbers
+module _ {n : ℕ} {A M : List ℤ} {o : Outcome} (order : IsOrder n) (long : length M ≡ 4096) (stands : Stands n A o M) where
+  same-number : (L : List ℤ) → length L ≡ n * n → Gives (inverseRefusals n A L) (o .number)
+  same-number L size = rw (front-size M order long ∙ sym size) at (stands .gives .number)
+
+  pub left-as-it-was : {L : List ℤ} → length L ≡ n * n → o .number ≢ 0 → InverseGives n A L o L
+  left-as-it-was {L} size f = record { number = same-number L size; values = stands .gives .values; kept = λ g. refl; written = λ z. absurd (f z) }
+
+  pub copied-out : {L E : List ℤ} → length L ≡ n * n → o .number ≡ 0 → Copied (n * n) M L E → InverseGives n A L o E
+  copied-out {L} {E} size z c = record {
+    number = same-number L size;
+    values = stands .gives .values;
+    kept = λ f. absurd (f z);
+    written = λ g. subst (IsInverse n (entries n A)) (sym same) (stands .gives .written z);
+  }
+    where
+      same : E ≡ take (n * n) M
+      same =
+          ext-getD (pos 0) E (take (n * n) M) (c .long ∙ size ∙ sym (front-size M order long)) λ i h.
+          let k : i < n * n = omega (arith, c .long, size) in
+          c .same i k ∙ sym (getD-take (n * n) M i (pos 0) k)
