@@ -5,16 +5,18 @@ use mathlib.Core.List.{List}
 use Prim.Native.Nat.{ℕ, _*_}
 use native.Mathlib.Omega.{arith}
 use lib.IntN.{ℤ}
-use lib.ListN.{length}
+use lib.ListN.{length, take}
 use Rattle.numbers.specs.Limits.{IsOrder}
 use Rattle.numbers.specs.Refusals.{Gives, Lowest}
 use Rattle.numbers.proofs.Answers.Refusals.{gives-lowest}
-use Rattle.verdict.specs.Verdict.{outcomeOf, verdictRefusals, VerdictGives, inverseRefusals, InverseGives}
+use Rattle.verdict.specs.Verdict.{outcomeOf, verdictRefusals, VerdictGives, inverseRefusals}
+use Rattle.verdict.specs.Parts.{Stands}
+use Rattle.verdict.proofs.Standing.{front-size}
 use Rattle.verdict.specs.declared.Ruling.{Ruling}
 use Rattle.verdict.specs.declared.Outcome.{Outcome}
-use Rattle.host.specs.Bytes.{decode, encode}
+use Rattle.octets.specs.Bytes.{decode, encode}
 use Rattle.host.specs.Host.{hostVerdictRefusals, HostVerdictGives, hostInverseRefusals, HostInverseGives}
-use Rattle.host.proofs.Bytes.{length-decode}
+use Rattle.octets.proofs.Bytes.{length-decode}
 
 -- document 01: the lowest number that applies is given
 pub host-verdict-lowest : {n : ℕ} {T : List ℕ} {k : ℕ} → HostVerdictGives n T k → Lowest (hostVerdictRefusals n T) k
@@ -60,17 +62,18 @@ inverse-number n T O K e u z (inl g) = inl g
 inverse-number n T O K e u z (inr (o, inl (f, q))) = absurd (⊎-elim (λ g. g (length-decode (n * n) T e)) (λ g. g z) f)
 inverse-number n T O K e u z (inr (o, inr (a, g))) = inr (o, inr (⊎-elim (λ f. f e) (λ f. f u), g))
 
-module _ {n : ℕ} {T O : List ℕ} {L K : List ℤ} {o : Outcome} {E : List ℤ} (e : length T ≡ 4 * (n * n)) (u : length O ≡ 8 * (n * n)) (z : length K ≡ n * n) (q : L ≡ decode T) (v : InverseGives n L K o E) where
+-- the inverse stands in the buffer M of the work
+module _ {n : ℕ} {T O : List ℕ} {L M : List ℤ} {o : Outcome} (order : IsOrder n) (e : length T ≡ 4 * (n * n)) (u : length O ≡ 8 * (n * n)) (long : length M ≡ 4096) (q : L ≡ decode T) (s : Stands n L o M) where
   pub host-kept : o .number ≢ 0 → HostInverseGives n T O (o .number) O
   host-kept f =
-      let w : InverseGives n (decode T) K o E = subst (λ (M : List ℤ). InverseGives n M K o E) q v in
-      refused (o .number) f (inverse-number n T O K e u z (w .number))
+      let w : Stands n (decode T) o M = subst (λ (A : List ℤ). Stands n A o M) q s in
+      refused (o .number) f (inverse-number n T O (take (n * n) M) e u (front-size M order long) (w .gives .number))
 
-  pub host-written : {F : List ℕ} → o .number ≡ 0 → F ≡ encode E → HostInverseGives n T O 0 F
+  pub host-written : {F : List ℕ} → o .number ≡ 0 → F ≡ encode (take (n * n) M) → HostInverseGives n T O 0 F
   host-written i b =
-      let w : InverseGives n (decode T) K o E = subst (λ (M : List ℤ). InverseGives n M K o E) q v in
+      let w : Stands n (decode T) o M = subst (λ (A : List ℤ). Stands n A o M) q s in
       record {
-        number = inverse-number n T O K e u z (subst (Gives (inverseRefusals n (decode T) K)) i (w .number));
+        number = subst (Gives (hostInverseRefusals n T O)) i (inverse-number n T O (take (n * n) M) e u (front-size M order long) (w .gives .number));
         kept = λ f. absurd (f refl);
-        written = λ g. record { table = E; inverse = w .written i; bytes = b };
+        written = λ g. record { table = take (n * n) M; inverse = w .gives .written i; bytes = b };
       }

@@ -14,7 +14,7 @@ use Rattle.numbers.specs.Limits.{IsOrder, Legal}
 use Rattle.numbers.specs.Refusals.{Refusals, done, _when_then_, Gives}
 use Rattle.tables.specs.Tables.{entries, HasWholeInverse}
 use Rattle.verdict.specs.Verdict.{TooWide, IsInverse}
-use Rattle.host.specs.Bytes.{decode, encode}
+use Rattle.octets.specs.Bytes.{decode, encode}
 
 abbrev pub hostVerdictRefusals : ℕ → List ℕ → Refusals
 hostVerdictRefusals n T =
