@@ -36,5 +36,5 @@ pub record Written (n : ℕ) (A E : List ℤ) : Type 0 where
   pub narrow : Narrow n (entries n E)
 
 pub record Stands (n : ℕ) (A : List ℤ) (o : Outcome) (M : List ℤ) : Type 0 where
-  -- (as if these numbers were the output: of an output the number tells the length alone)
+  -- (as if these numbers were the output: of an output the number asks the length alone)
   pub gives : InverseGives n A (take (n * n) M) o (take (n * n) M)
