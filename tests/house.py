@@ -12,7 +12,7 @@ BELIEVED = [
     "tables/specs/Tables.antt", "tables/specs/Views.antt",
     "lifting/specs/Lifting.antt", "lifting/specs/Views.antt",
     "verdict/specs/Verdict.antt",
-    "host/specs/Bytes.antt", "host/specs/Host.antt",
+    "octets/specs/Bytes.antt", "host/specs/Host.antt",
     "sheets/specs/Sheet.antt", "sheets/specs/Place.antt", "sheets/specs/Answer.antt",
     "reports/specs/Report.antt", "certify/specs/Program.antt",
 ]

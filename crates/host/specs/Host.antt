@@ -1,8 +1,8 @@
 -- What the host's calls give. T is the lent table, as bytes; O is the lent buffer as it was, and E as it is left.
---   hostVerdictRefusals n T     the verdict's numbers in their order
+--   hostVerdictRefusals n T     the verdict's numbers in their order, for the decoded table, with 3 read on bytes
 --   HostVerdictGives n T k      the verdict's number is k
---   hostInverseRefusals n T O   the inverse call's numbers in their order
---   IsInverseBytes n T E        E is the whole inverse of the table, as bytes
+--   hostInverseRefusals n T O   the inverse call's numbers in their order, the same way
+--   IsInverseBytes n T E        E is the whole inverse of the table, which is narrow, as bytes
 --   HostInverseGives n T O k E  the inverse call's number is k, and it leaves E in the buffer
 use mathlib.Core.Path.{_≡_}
 use mathlib.Core.Logic.{_≢_, _⊎_}
@@ -10,19 +10,13 @@ use mathlib.Core.List.{List}
 use Prim.Native.Nat.{ℕ, _*_}
 use lib.IntN.{ℤ}
 use lib.ListN.{length}
-use Rattle.numbers.specs.Limits.{IsOrder, Legal}
-use Rattle.numbers.specs.Refusals.{Refusals, done, _when_then_, Gives}
+use Rattle.numbers.specs.Refusals.{Refusals, Gives}
 use Rattle.tables.specs.Tables.{entries, HasWholeInverse}
-use Rattle.verdict.specs.Verdict.{TooWide, IsInverse}
-use Rattle.host.specs.Bytes.{decode, encode}
+use Rattle.verdict.specs.Verdict.{IsNarrowInverse, verdictNumbers, inverseNumbers}
+use Rattle.octets.specs.Bytes.{decode, encode}
 
 abbrev pub hostVerdictRefusals : ℕ → List ℕ → Refusals
-hostVerdictRefusals n T =
-    1 when ¬ IsOrder n then
-    3 when length T ≢ 4 * (n * n) then
-    4 when ¬ Legal (decode T) then
-    7 when ¬ HasWholeInverse n (entries n (decode T)) then
-    done
+hostVerdictRefusals n T = verdictNumbers n (length T ≢ 4 * (n * n)) (decode T)
 
 pub record HostVerdictGives (n : ℕ) (T : List ℕ) (k : ℕ) : Type 0 where
   pub number : Gives (hostVerdictRefusals n T) k
@@ -30,17 +24,11 @@ pub record HostVerdictGives (n : ℕ) (T : List ℕ) (k : ℕ) : Type 0 where
   pub whole : k ≡ 0 → HasWholeInverse n (entries n (decode T))
 
 abbrev pub hostInverseRefusals : ℕ → List ℕ → List ℕ → Refusals
-hostInverseRefusals n T O =
-    1 when ¬ IsOrder n then
-    3 when (length T ≢ 4 * (n * n)) ⊎ (length O ≢ 8 * (n * n)) then
-    4 when ¬ Legal (decode T) then
-    7 when ¬ HasWholeInverse n (entries n (decode T)) then
-    8 when TooWide n (entries n (decode T)) then
-    done
+hostInverseRefusals n T O = inverseNumbers n ((length T ≢ 4 * (n * n)) ⊎ (length O ≢ 8 * (n * n))) (decode T)
 
 pub record IsInverseBytes (n : ℕ) (T E : List ℕ) : Type 0 where
   pub table : List ℤ
-  pub inverse : IsInverse n (entries n (decode T)) table
+  pub inverse : IsNarrowInverse n (entries n (decode T)) table
   pub bytes : E ≡ encode table
 
 pub record HostInverseGives (n : ℕ) (T O : List ℕ) (k : ℕ) (E : List ℕ) : Type 0 where

@@ -22,7 +22,7 @@ pub fn row(n: usize, table: &[i64], i: usize) -> &[i64]
 // The part of a buffer of `size` numbers from number `start` on, in the buffer's own memory.
 pub fn part(t: &[i64], start: usize, size: usize) -> &[i64]
     requires { ⌜ start + size ≤ length (now t) ⌝ }
-    ensures { λ r. ⌜ Stretch (t .entry) r start size ⌝ }
+    ensures { λ r. ⌜ Stretch 8 (t .entry) r start size ⌝ }
 {
     let end = start + size;
     &t[start..end]

@@ -12,11 +12,10 @@ use Rattle.numbers.specs.Numbers.{IsNeed, IsLifts}
 use Rattle.numbers.specs.Refusals.{Refusals, done, _when_then_, _thereafter_, Gives, Lowest}
 use Rattle.numbers.proofs.Answers.Decisions.{stable}
 use Rattle.numbers.proofs.Answers.Refusals.{Passes, passes-on, refused-stays, from-second, learnt, gives-lowest}
-use Rattle.numbers.proofs.Answers.Tables.{lawful-passes, passes-lawful, same-head}
+use Rattle.numbers.proofs.Answers.Tables.{lawful-passes, passes-lawful, fit, same-head}
 use Rattle.tables.specs.Tables.{entries, height, HasWholeInverse}
 use Rattle.tables.proofs.Inverses.TwoSided.{inverse-unique}
 use Rattle.lifting.specs.Steps.{Stage}
-use Rattle.lifting.proofs.Calls.Refusals.{fit}
 use Rattle.verdict.specs.Verdict.{TooWide, IsNarrowInverse, answer, outcomeOf, Told, after-0, after-7, after-8, Values, verdictNumbers, verdictRefusals, VerdictGives, inverseRefusals, InverseGives}
 use Rattle.verdict.specs.Parts.{Leaves, NoneNarrow}
 use Rattle.verdict.specs.declared.Ruling.{Ruling}
@@ -61,11 +60,11 @@ leaves-yes k q = k .stage (ap (λ r. outcomeOf r .number) q)
 
 -- ---- the lists: what follows their head
 
-abbrev none : ℕ → List ℤ → Refusals
-none n A = 7 when ¬ HasWholeInverse n (entries n A) then done
+abbrev pub noneWhole : ℕ → List ℤ → Refusals
+noneWhole n A = 7 when ¬ HasWholeInverse n (entries n A) then done
 
-abbrev wide : ℕ → List ℤ → Refusals
-wide n A = 8 when TooWide n (entries n A) then done
+abbrev pub tooWide : ℕ → List ℤ → Refusals
+tooWide n A = 8 when TooWide n (entries n A) then done
 
 -- ---- verdict
 
@@ -84,8 +83,8 @@ module _ {n : ℕ} {A : List ℤ} where
       refused 4 (λ z. omega arith) (λ z. omega arith) (λ z. omega arith) (inr (λ g. g o, inr (λ g. g s, inl (f, refl))))
 
 module _ {n : ℕ} {A : List ℤ} (law : Lawful n A) {e l : ℕ} (need : IsNeed n (height A) e) (depth : IsLifts n l) where
-  verdict-number : {k : ℕ} → Gives (none n A) k → Gives (verdictRefusals n A) k
-  verdict-number {k} g = passes-on (tableRefusals n (length A ≢ n * n) A) (none n A) k (lawful-passes (length A ≢ n * n) law (λ f. f (law .size))) g
+  verdict-number : {k : ℕ} → Gives (noneWhole n A) k → Gives (verdictRefusals n A) k
+  verdict-number {k} g = passes-on (tableRefusals n (length A ≢ n * n) A) (noneWhole n A) k (lawful-passes (length A ≢ n * n) law (λ f. f (law .size))) g
 
   pub verdict-yes : HasWholeInverse n (entries n A) → VerdictGives n A (answer 0 e l)
   verdict-yes w = record { number = verdict-number (inr (λ f. f w, refl)); values = told-values after-0 need depth; whole = λ z. w }
@@ -95,10 +94,10 @@ module _ {n : ℕ} {A : List ℤ} (law : Lawful n A) {e l : ℕ} (need : IsNeed 
 
   -- ---- inverse, of a lawful table and a buffer of n² numbers
 
-  inverse-number : (L : List ℤ) {k : ℕ} → length L ≡ n * n → Gives (none n A thereafter wide n A) k → Gives (inverseRefusals n A L) k
+  inverse-number : (L : List ℤ) {k : ℕ} → length L ≡ n * n → Gives (noneWhole n A thereafter tooWide n A) k → Gives (inverseRefusals n A L) k
   inverse-number L {k} size g =
       let P : Type 0 = (length A ≢ n * n) ⊎ (length L ≢ n * n) in
-      passes-on (tableRefusals n P A) (none n A thereafter wide n A) k (lawful-passes P law (fit (law .size) size)) g
+      passes-on (tableRefusals n P A) (noneWhole n A thereafter tooWide n A) k (lawful-passes P law (fit (law .size) size)) g
 
   module _ {L : List ℤ} (size : length L ≡ n * n) where
     pub inverse-none : ¬ HasWholeInverse n (entries n A) → InverseGives n A L (answer 7 e l) L
@@ -144,7 +143,7 @@ as-verdict : (n : ℕ) (A L : List ℤ) {k : ℕ} → length L ≡ n * n → k �
 as-verdict n A L {k} s z g =
     let P : Type 0 = length A ≢ n * n in
     let Q : Type 0 = (length A ≢ n * n) ⊎ (length L ≢ n * n) in
-    refused-stays (verdictNumbers n Q A) (wide n A) z (same-head n P Q A (none n A) k (λ p. inl p, ⊎-elim (λ p. p) (λ f. absurd (f s))) g)
+    refused-stays (verdictNumbers n Q A) (tooWide n A) z (same-head n P Q A (noneWhole n A) k (λ p. inl p, ⊎-elim (λ p. p) (λ f. absurd (f s))) g)
 
 inverse-as-verdict : {n : ℕ} {A L : List ℤ} {o : Outcome} → length L ≡ n * n → o .number ≢ 0 → VerdictGives n A o → InverseGives n A L o L
 inverse-as-verdict {n} {A} {L} s z v = record { number = as-verdict n A L s z (v .number); values = v .values; kept = λ f. refl; written = λ e. absurd (z e) }
@@ -154,12 +153,12 @@ lawful : (n : ℕ) (A : List ℤ) → Passes (tableRefusals n (length A ≢ n * 
 lawful n A = passes-lawful n (length A ≢ n * n) A (stable (ℕ-discrete (length A) (n * n)))
 
 pub passed : (n : ℕ) (A : List ℤ) → Gives (verdictRefusals n A) 0 → Lawful n A
-passed n A g = lawful n A (from-second (tableRefusals n (length A ≢ n * n) A) (none n A) 0 tt g .0)
+passed n A g = lawful n A (from-second (tableRefusals n (length A ≢ n * n) A) (noneWhole n A) 0 tt g .0)
 
 pub passed-no : (n : ℕ) (A : List ℤ) → Gives (verdictRefusals n A) 7 → Lawful n A × ¬ HasWholeInverse n (entries n A)
 passed-no n A g =
-    let p = from-second (tableRefusals n (length A ≢ n * n) A) (none n A) 7 tt g in
-    (lawful n A (p .0), learnt (none n A) 7 tt (p .1))
+    let p = from-second (tableRefusals n (length A ≢ n * n) A) (noneWhole n A) 7 tt g in
+    (lawful n A (p .0), learnt (noneWhole n A) 7 tt (p .1))
 
 -- what inverse gives after each case of the verdict's answer
 module _ {n : ℕ} {A : List ℤ} {r : Ruling} (says : VerdictGives n A (outcomeOf r)) {L : List ℤ} (size : length L ≡ n * n) where

@@ -1,18 +1,17 @@
 -- The inverse in the buffer of the work: it stands in block 0, whose numbers are those of an output.
-use mathlib.Core.Path.{_≡_, refl, sym, ap, subst, _∙_}
+use mathlib.Core.Path.{_≡_, refl, sym, subst, _∙_}
 use mathlib.Core.Logic.{_≢_}
-use mathlib.Core.List.{List, [], _++_, append-nil}
-use Prim.Native.Nat.{ℕ, _*_}
+use mathlib.Core.List.{List}
+use Prim.Native.Nat.{ℕ, _*_, _<_}
 use native.Mathlib.Omega.{arith}
 use lib.IntN.{ℤ, pos}
-use lib.ListN.{length, take, drop, drop-of-length-le}
-use lib.Seq.{length-take-le, getD-take}
+use lib.ListN.{length, take}
+use lib.Seq.{length-take-le, getD-take, ext-getD}
 use Rattle.numbers.specs.Limits.{IsOrder}
 use Rattle.numbers.specs.Refusals.{Gives}
 use Rattle.tables.specs.Tables.{entries, block}
 use Rattle.tables.specs.Buffer.{Copied}
 use Rattle.tables.proofs.Buffers.Places.{square-small}
-use Rattle.tables.proofs.Buffers.Lists.{copied-list}
 use Rattle.verdict.specs.Verdict.{Narrow, IsNarrowInverse, inverseRefusals, InverseGives}
 use Rattle.verdict.specs.Parts.{Summed, Standing}
 use Rattle.verdict.specs.declared.Outcome.{Outcome}
@@ -45,6 +44,6 @@ module _ {n : ℕ} {A M : List ℤ} {o : Outcome} (order : IsOrder n) (long : le
     where
       same : E ≡ take (n * n) M
       same =
-          copied-list (omega (arith, square-small (order .upto))) (omega (arith, size)) c
-          ∙ ap (λ (x : List ℤ). take (n * n) M ++ x) (drop-of-length-le L {i = n * n} (omega (arith, size)))
-          ∙ append-nil (take (n * n) M)
+          ext-getD (pos 0) E (take (n * n) M) (c .long ∙ size ∙ sym (front-size M order long)) λ i h.
+          let k : i < n * n = omega (arith, c .long, size) in
+          c .same i k ∙ sym (getD-take (n * n) M i (pos 0) k)

@@ -11,6 +11,9 @@ ghost use Rattle.lifting.specs.Steps.{Setting, Stage};
 ghost use Rattle.verdict.specs.Verdict.{Narrow, IsNarrowInverse, outcomeOf, VerdictGives, InverseGives};
 ghost use Rattle.verdict.specs.Parts.{Found, Fails, Leaves, NoneNarrow, Covers, Summed, Standing};
 
+// The buffer for the work: four blocks of the largest order.
+pub const BUFFER: usize = 4096;
+
 // The verdict: yes or no, each with exponent and lifts, or refused by a number.
 pub enum Ruling {
     Yes { exponent: u32, lifts: u32 },
@@ -149,7 +152,7 @@ fn decide(n: usize, a: &[i64], buf: &mut [i64]) -> Ruling
 pub fn verdict(n: usize, table: &[i64]) -> Ruling
     ensures { λ r. ⌜ VerdictGives n (now (table .entry)) (outcomeOf r) ⌝ }
 {
-    let mut buf = [0i64; 4096];
+    let mut buf = [0i64; BUFFER];
     decide(n, table, &mut buf)
 }
 
@@ -196,7 +199,7 @@ fn invert(n: usize, e: u32, a: &[i64], buf: &mut [i64]) -> bool
     narrow(n, buf)
 }
 
-// The inverse call in a lent buffer: after 0 the table B with A·B = I is in block 0.
+// The inverse call in a lent buffer: after 0 the table B with A·B = I stands in block 0.
 pub fn inverse_in(n: usize, table: &[i64], buf: &mut [i64]) -> Outcome
     requires { ⌜ IsOrder n × (length (now buf) ≡ 4096) ⌝ }
     ensures { λ r. ⌜ Standing n (now (table .entry)) r (now (buf .exit)) ⌝ }
@@ -248,7 +251,7 @@ pub fn inverse(n: usize, table: &[i64], out: &mut [i64]) -> Outcome
             lifts: 0,
         };
     }
-    let mut buf = [0i64; 4096];
+    let mut buf = [0i64; BUFFER];
     let answer = inverse_in(n, table, &mut buf);
     if answer.number != 0 {
         return answer;

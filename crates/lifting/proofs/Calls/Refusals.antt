@@ -12,6 +12,7 @@ use lib.ListN.{length}
 use Rattle.numbers.specs.Limits.{IsOrder, Legal}
 use Rattle.numbers.specs.Refusals.{Refusals, done, _when_then_, Gives, Lowest}
 use Rattle.numbers.proofs.Answers.Refusals.{Passes, passes-on, refused-stays, gives-lowest, learnt}
+use Rattle.numbers.proofs.Answers.Tables.{fit}
 use Rattle.numbers.proofs.Counting.Search.{need, need-is}
 use Rattle.tables.specs.Tables.{height, entries, HasInverseMod}
 use Rattle.lifting.specs.Lifting.{IsExpansion, BelowNeed, inputRefusals, liftRefusals, LiftGives}
@@ -34,10 +35,6 @@ enough-more {m = m} {e = e} k l = record { from = omega (arith, k .from); reache
 
 few : {s : ℕ} → s ≤ 4 → ¬ (4 < s)
 few h l = omega arith
-
--- both buffers have the required length
-pub fit : {a b c d : ℕ} → a ≡ c → b ≡ d → ¬ ((a ≢ c) ⊎ (b ≢ d))
-fit p q = ⊎-elim (λ f. f p) (λ f. f q)
 
 -- no number from 1 to 3 applies
 pub record Sized (n s : ℕ) (A : List ℤ) (size : ℕ) : Type 0 where

@@ -12,21 +12,21 @@ use Rattle.numbers.proofs.Answers.Decisions.{both?, iff?, order?}
 use Rattle.tables.specs.Views.{Stretch, Same, View, HasRow, RowGives}
 use Rattle.tables.proofs.Buffers.Places.{square-small}
 
--- ---- a view that is there or not
+-- ---- a view that is there or not, of elements of any width
 
-pub stretch-unique : {t r s : RefT (List ℤ)} {start size : ℕ} → Stretch t r start size → Stretch t s start size → Same r s
+pub stretch-unique : {T : Type 0} {width : ℕ} {t r s : RefT (List T)} {start size : ℕ} → Stretch width t r start size → Stretch width t s start size → Same r s
 stretch-unique p q = record { memory = p .memory ∙ sym (q .memory); place = p .place ∙ sym (q .place); list = p .list ∙ sym (q .list) }
 
-module _ {P : Type 0} {t r : RefT (List ℤ)} {start size : ℕ} where
-  pub view-there : P → Stretch t r start size → View P t r start size
+module _ {T : Type 0} {width : ℕ} {P : Type 0} {t : RefT (List T)} {start size : ℕ} where
+  pub view-there : {r : RefT (List T)} → P → Stretch width t r start size → View width P t r start size
   view-there h s = record { there = λ g. s; none = λ f. absurd (f h) }
 
-  pub view-none : ¬ P → Stretch t r 0 0 → View P t r start size
+  pub view-none : {r : RefT (List T)} → ¬ P → Stretch width t r 0 0 → View width P t r start size
   view-none f s = record { there = λ h. absurd (f h); none = λ g. s }
 
-pub view-unique : {P : Type 0} {t r s : RefT (List ℤ)} {start size : ℕ} → Dec P → View P t r start size → View P t s start size → Same r s
-view-unique (yes h) p q = stretch-unique (p .there h) (q .there h)
-view-unique (no f) p q = stretch-unique (p .none f) (q .none f)
+  pub view-unique : {r s : RefT (List T)} → Dec P → View width P t r start size → View width P t s start size → Same r s
+  view-unique (yes h) p q = stretch-unique (p .there h) (q .there h)
+  view-unique (no f) p q = stretch-unique (p .none f) (q .none f)
 
 -- ---- row
 

@@ -5,7 +5,7 @@ use mathlib.Core.List.{List}
 use Prim.Native.Nat.{ℕ, _+_, _*_, _/_, _%_, _^_}
 use lib.IntN.{ℤ}
 use lib.ListN.{getD}
-use Rattle.host.specs.Bytes.{bits64}
+use Rattle.octets.specs.Bytes.{bits64}
 
 abbrev pub wordAt : List ℕ → ℕ → ℕ
 wordAt b at = getD b at 0 + 256 * (getD b (at + 1) 0 + 256 * (getD b (at + 2) 0 + 256 * getD b (at + 3) 0))

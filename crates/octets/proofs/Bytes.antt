@@ -1,35 +1,16 @@
--- Bytes, place by place, and the loops that read and write them.
+-- Bytes, place by place: the number and the byte at each place of what is decoded and encoded.
 use mathlib.Core.Path.{_≡_, refl, sym, ap, _∙_}
 use mathlib.Core.List.{List, [], _∷_}
 use Prim.Native.Nat.{ℕ, zero, suc, _+_, _-_, _*_, _/_, _%_, _^_, _≤_, _<_}
 use native.Mathlib.Nat.{not-suc-le-zero, le-of-suc-le-suc, div-one, div-div-eq-div-mul}
 use native.Mathlib.Decide.{decLt}
 use native.Mathlib.Omega.{arith}
-use borrow.Author.Count.{below-more}
 use lib.IntN.{ℤ, pos, negsuc}
-use lib.ListN.{length, getD, set, length-append, List·getD-append}
+use lib.ListN.{length, getD, length-append, List·getD-append}
 use lib.Pow.{pow-add}
-use lib.Seq.{getD-set-same, getD-set-other, getD-append-add, ext-getD}
-use Rattle.host.specs.Bytes.{signed32, decode, bits64, leastFirst, encode}
-use Rattle.host.specs.Parts.{wordAt, byteOf}
-
--- ---- the first k places of a list are f's
-
-pub record Filled {A : Type 0} (f : ℕ → A) (k : ℕ) (l : List A) (d : A) : Type 0 where
-  pub each : (p : ℕ) → p < k → getD l p d ≡ f p
-
-pub filled-none : {A : Type 0} {f : ℕ → A} {l : List A} {d : A} → Filled f 0 l d
-filled-none = record { each = λ p h. absurd (not-suc-le-zero h) }
-
-pub filled-more : {A : Type 0} {f : ℕ → A} {k : ℕ} (l : List A) (v d : A) → k < length l → v ≡ f k → Filled f k l d → Filled f (k + 1) (set l k v) d
-filled-more {A} {f} {k} l v d h e w = record {
-  each = below-more (λ (p : ℕ). getD (set l k v) p d ≡ f p) k
-      (λ p b. getD-set-other l k p v d (λ q. apart p b q) ∙ w .each p b)
-      (getD-set-same l k v d h ∙ e);
-}
-  where
-    apart : (p : ℕ) → p < k → p ≡ k → ⊥
-    apart p b q = omega arith
+use lib.Seq.{getD-append-add}
+use Rattle.octets.specs.Bytes.{signed32, decode, bits64, leastFirst, encode}
+use Rattle.octets.specs.Parts.{wordAt, byteOf}
 
 -- ---- four bytes a number
 
@@ -49,18 +30,13 @@ word-on a b c d t i =
     let f : (k : ℕ) → 4 * suc i + k ≡ suc (suc (suc (suc (4 * i + k)))) = λ k. omega arith in
     rw (f 1, f 2, f 3, e)
 
-decode-at : (b : List ℕ) (i : ℕ) → 4 * i + 4 ≤ length b → getD (decode b) i (pos 0) ≡ signed32 (wordAt b (4 * i))
+pub decode-at : (b : List ℕ) (i : ℕ) → 4 * i + 4 ≤ length b → getD (decode b) i (pos 0) ≡ signed32 (wordAt b (4 * i))
 decode-at (a ∷ b ∷ c ∷ d ∷ t) zero h = refl
 decode-at (a ∷ b ∷ c ∷ d ∷ t) (suc i) h = decode-at t i (omega arith) ∙ ap signed32 (sym (word-on a b c d t i))
 decode-at (a ∷ b ∷ c ∷ []) i h = absurd (omega arith)
 decode-at (a ∷ b ∷ []) i h = absurd (omega arith)
 decode-at (a ∷ []) i h = absurd (omega arith)
 decode-at [] i h = absurd (omega arith)
-
--- what a loop has read is the table
-pub decoded : (m : ℕ) (b : List ℕ) (l : List ℤ) → length b ≡ 4 * m → length l ≡ m → Filled (λ (i : ℕ). signed32 (wordAt b (4 * i))) m l (pos 0) → l ≡ decode b
-decoded m b l e f w =
-    ext-getD (pos 0) l (decode b) (f ∙ sym (length-decode m b e)) (λ i h. w .each i (omega arith) ∙ sym (decode-at b i (omega arith)))
 
 -- ---- eight bytes a number
 
@@ -80,7 +56,7 @@ pub length-encode : (l : List ℤ) → length (encode l) ≡ 8 * length l
 length-encode [] = refl
 length-encode (v ∷ l) = omega (arith, length-append (leastFirst 8 (bits64 v)) (encode l), length-encode l)
 
-encode-at : (l : List ℤ) (p : ℕ) → p < 8 * length l → getD (encode l) p 0 ≡ byteOf (getD l (p / 8) (pos 0)) (p % 8)
+pub encode-at : (l : List ℤ) (p : ℕ) → p < 8 * length l → getD (encode l) p 0 ≡ byteOf (getD l (p / 8) (pos 0)) (p % 8)
 encode-at [] p h = absurd (omega arith)
 encode-at (v ∷ l) p h = elim (decLt p 8) [ yes k ↦ first k | no f ↦ later (p - 8) (omega arith) (encode-at l (p - 8) (omega arith)) ]
   where
@@ -95,11 +71,6 @@ encode-at (v ∷ l) p h = elim (decLt p 8) [ yes k ↦ first k | no f ↦ later 
         let e : (8 + q) / 8 ≡ suc (q / 8) = omega arith in
         let g : (8 + q) % 8 ≡ q % 8 = omega arith in
         rw (i, e, g) (getD-append-add (leastFirst 8 (bits64 v)) (encode l) q 0 ∙ r)
-
--- what a loop has written are the bytes of the table
-pub encoded : (l : List ℤ) (b : List ℕ) → length b ≡ 8 * length l → Filled (λ (p : ℕ). byteOf (getD l (p / 8) (pos 0)) (p % 8)) (8 * length l) b 0 → b ≡ encode l
-encoded l b e w =
-    ext-getD 0 b (encode l) (e ∙ sym (length-encode l)) (λ p h. w .each p (omega arith) ∙ sym (encode-at l p (omega arith)))
 
 -- ---- examples: FF FF FF FF 00 00 10 00 is -1 and 2^20; -2 and 2^37 as they are written
 
