@@ -22,7 +22,6 @@ use Rattle.sheets.proofs.Bytes.Puts.{put-whole}
 use Rattle.reports.specs.Report.{figures, after0, answerLine, IsCertificate, IsReport, no-sheet, of-sheet, ReportGives, room}
 use Rattle.reports.specs.Parts.{Puts}
 use Rattle.verdict.proofs.Figures.{number-most, exponent-most, lifts-most}
-use Rattle.verdict.proofs.Refusals.{inverse-narrow}
 use Rattle.reports.proofs.Places.{Near, near, refusal-near}
 use Rattle.reports.proofs.Writing.{after-zero, after-other}
 
@@ -61,7 +60,7 @@ certificate-short {n} {es} law c =
     body : Dec (o .number ≡ 0) → length (after0 (o .number) (rows n n (c .left))) ≤ 14336
     body (yes z) =
         let s = c .gives .written z .size in
-        omega (arith, ap length (after-zero (o .number) (rows n n (c .left)) z), s, square-small (law .order .upto), rows-most 11 n n (c .left) (narrow-below (c .left) (law .order) s (inverse-narrow (c .gives) z)))
+        omega (arith, ap length (after-zero (o .number) (rows n n (c .left)) z), s, square-small (law .order .upto), rows-most 11 n n (c .left) (narrow-below (c .left) (law .order) s (c .gives .written z .narrow)))
     body (no f) = omega (arith, ap length (after-other (o .number) (rows n n (c .left)) f))
 
 refusal-short : {fs : List ℕ} → Near fs → length (line (figures (9 ∷ fs))) ≤ 24
