@@ -1,5 +1,5 @@
 /* A host in C: the inverse of a table of order 2, and a table that has none.
- *   gcc -Iinclude examples/host.c target/staticlib/libhost.a -o target/host && target/host */
+ *   bash .ci/x86 gcc -Iinclude examples/host.c target/staticlib/libhost.a -o target/host && bash .ci/x86 run target/host */
 #include <inttypes.h>
 #include <stdio.h>
 #include <string.h>

@@ -5,16 +5,18 @@ import sys
 import time
 import traceback
 
+import crew
 import examples
 import hosts
 import house
 import lifts
+import mishaps
 import program
 import tables
 import texts
 from library import Library
 
-MODULES = (house, tables, lifts, texts, program, hosts, examples)
+MODULES = (house, tables, lifts, texts, program, crew, mishaps, hosts, examples)
 
 
 def run(task):

@@ -1,11 +1,12 @@
 -- The height of a table, and what a legal table's entries are.
-use mathlib.Core.Path.{_≡_, ap, subst, _∙_}
+use mathlib.Core.Path.{_≡_, sym, ap, subst, _∙_}
 use mathlib.Core.List.{List, [], _∷_}
-use Prim.Native.Nat.{ℕ, zero, suc, _+_, _*_, _^_, _≤_, _<_, max}
+use Prim.Native.Nat.{ℕ, zero, suc, _+_, _*_, _/_, _%_, _^_, _≤_, _<_, max}
 use native.Mathlib.Nat.{le-of-suc-le-suc, zero-lt-suc}
 use native.Mathlib.Numerals.{add-one}
+use native.Mathlib.Decide.{decLt}
 use native.Mathlib.Omega.{arith}
-use lib.Arith.{digits-lt}
+use lib.Arith.{digits-lt, digits-div, digits-mod}
 use lib.Dec.{leb}
 use lib.IntN.{ℤ, pos, natAbs}
 use lib.ListN.{length, getD, take}
@@ -69,3 +70,16 @@ finds-illegal n A {i = i} {j = j} e f q p =
 
 pub finds-legal : (n : ℕ) (A : List ℤ) {o : Outside} → Finds n A o → o ≡ Nowhere → Legal A
 finds-legal n A f q = subst (Finds n A) q f
+
+-- and the place that it names is one
+pub first-unique : {n : ℕ} {A : List ℤ} {i j k l : ℕ} → IsFirst n A i j → IsFirst n A k l → (i ≡ k) × (j ≡ l)
+first-unique {n} {A} {i} {j} {k} {l} p q = (
+  sym (digits-div i (p .column)) ∙ ap (λ (t : ℕ). t / n) same ∙ digits-div k (q .column),
+  sym (digits-mod i (p .column)) ∙ ap (λ (t : ℕ). t % n) same ∙ digits-mod k (q .column),
+)
+  where
+    least : {i j k l : ℕ} → IsFirst n A i j → IsFirst n A k l → k * n + l ≤ i * n + j
+    least {i} {j} {k} {l} p q = elim (decLt (i * n + j) (k * n + l)) [ yes h ↦ absurd (p .outside (q .before (i * n + j) h)) | no f ↦ omega arith ]
+
+    same : i * n + j ≡ k * n + l
+    same = omega (arith, least p q, least q p)
