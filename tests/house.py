@@ -100,9 +100,10 @@ def the_rules_cite_every_definition_to_believe():
     return f"{len(believed)} definitions"
 
 
-# A complaint that shows nothing false by itself: a callee is not asked rightly, or what was refused above is missing here.
+# A complaint that shows nothing false by itself: a callee is not asked rightly, what was refused above is missing here, or the parts of a function's proof
+# (collected in its -spec) are not those of the code.
 REQUIREMENT = r"`[^`]*-requires(?:-\d+)?`"
-HOLLOW = rf"error: {REQUIREMENT}|was not admitted|does not close {REQUIREMENT}(?:, {REQUIREMENT})*(?:;|$)"
+HOLLOW = rf"error: (?:{REQUIREMENT}|`[^`]*-spec`)|was not admitted|does not close {REQUIREMENT}(?:, {REQUIREMENT})*(?:;|$)"
 
 
 def wrong_builds():
