@@ -1,20 +1,20 @@
 -- Linear lifting, over any X and any table F: a residue stands for the sum of the digits so far, once X was used; it is one; and it exists.
-use mathlib.Core.Path.{_≡_, refl, sym, subst}
-use Prim.Native.Nat.{ℕ, zero, suc, _+_, _*_, _^_, _≤_, _<_}
+use mathlib.Core.Path.{sym, subst}
+use Prim.Native.Nat.{ℕ, suc, _*_, _^_, _≤_, _<_}
 use native.Mathlib.Nat.{pow-suc}
 use native.Mathlib.Omega.{arith}
 use lib.IntN.{pos, natAbs}
 use Rattle.numbers.proofs.Algebra.Sum.{δ}
 use Rattle.numbers.proofs.Remainders.Powers.{power-one}
 use Rattle.numbers.proofs.Remainders.Remainder.{rem-is}
-use Rattle.tables.specs.Tables.{Matrix, Below, _≈⟨_⟩_, _⊞_, _⊟_, _⊙_, _·⟨_⟩_, CongM}
+use Rattle.tables.specs.Tables.{Matrix, Below, _≈⟨_⟩_, _⊞_, _⊙_, _·⟨_⟩_, CongM}
 use Rattle.tables.proofs.Algebra.Matrix.{≈-refl}
-use Rattle.lifting.specs.Lifting.{IsStart, IsDigit}
+use Rattle.lifting.specs.Lifting.{IsStart}
 use Rattle.lifting.specs.Linear.{IsLinear, unused, used}
 use Rattle.lifting.specs.Steps.{digitOf, nextResidue}
 use Rattle.lifting.proofs.Expansions.Rules.{start-digit, digit-resp, digit-unique, digit-exists}
 use Rattle.lifting.proofs.Expansions.Meaning.{first-means, digit-means}
-use Rattle.lifting.proofs.Expansions.Bound.{Bounded, first-bounded, digit-bounded}
+use Rattle.lifting.proofs.Expansions.Bound.{first-bounded, digit-bounded}
 use Rattle.lifting.proofs.Expansions.Stands.{Stands}
 
 -- R_0 is the residue after X was used once
