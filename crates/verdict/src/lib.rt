@@ -11,6 +11,9 @@ ghost use Rattle.lifting.specs.Steps.{Setting, Stage};
 ghost use Rattle.verdict.specs.Verdict.{Narrow, IsNarrowInverse, outcomeOf, VerdictGives, InverseGives};
 ghost use Rattle.verdict.specs.Parts.{Found, Fails, Leaves, NoneNarrow, Covers, Summed, Standing};
 
+// A second digit beyond it passes the width, whatever the first is: 2^23.
+const MOST_DIGIT: u64 = 8388608;
+
 // The buffer for the work: four blocks of the largest order.
 pub const BUFFER: usize = 4096;
 
@@ -171,7 +174,7 @@ fn digits(n: usize, e: u32, a: &[i64], buf: &mut [i64]) -> bool
     if !kernels::blocks::vanishes(n, buf, 1) {
         return false;
     }
-    if !kernels::blocks::within(n, buf, 2, 8388608) {
+    if !kernels::blocks::within(n, buf, 2, MOST_DIGIT) {
         return false;
     }
     kernels::blocks::extend(n, e, buf, 0, 2);
