@@ -113,23 +113,29 @@ def the_rules_cite_every_definition_to_believe():
     return f"{len(believed)} definitions"
 
 
+# A complaint that shows nothing false by itself: a callee is not asked rightly, or what was refused above is missing here.
+REQUIREMENT = r"`[^`]*-requires(?:-\d+)?`"
+HOLLOW = rf"error: {REQUIREMENT}|was not admitted|does not close {REQUIREMENT}(?:, {REQUIREMENT})*(?:;|$)"
+
+
 def wrong_builds():
-    """Of each wrong build in must-fail/: its edit, its name, and the proof that must refuse it. An edit has at most one build to a proof, so that what a
-    proof complains of is its own build."""
+    """Of each wrong build in must-fail/: its edit, its name, the proof that must refuse it, and the theorem there that it makes false, which every build of a
+    statement names. An edit has at most one build to a proof, so that what a proof complains of is its own build."""
     found = []
     for edit in sorted(CRATES.glob("*/must-fail/*.edit")):
         text = edit.read_text(encoding="utf8")
-        builds = re.findall(r"^-- (\w+) \(([\w/]+)\): \S", text, re.M)
-        proofs = {place for _, place in builds}
+        builds = re.findall(r"^-- (\w+) \(([\w/]+)(?:\.([\w-]+))?\): \S.*\nfile: (\w+)/", text, re.M)
+        proofs = {place for _, place, _, _ in builds}
         assert builds and len(builds) == len(proofs) == len(re.findall("^file: ", text, re.M)), edit
-        found += [(edit, name, place) for name, place in builds]
+        assert all(theorem or part == "src" for _, _, theorem, part in builds), f"{edit}: a statement, and no theorem that is false"
+        found += [(edit, name, place, theorem) for name, place, theorem, _ in builds]
     return found
 
 
 def wrong_builds_are_refused_for_a_false_fact():
     """An edit that only makes a proof file unfit for the code shows nothing, and a call whose requirement fails says only that the callee is not asked
     rightly: something more must be false."""
-    for edit, name, place in wrong_builds():
+    for edit, name, place, theorem in wrong_builds():
         crate = edit.parent.parent.name
         log = ROOT / "target" / "must-fail" / crate / edit.stem / ".log"
         assert log.exists(), f"no log of {edit}: run `rt ci` first"
@@ -139,14 +145,19 @@ def wrong_builds_are_refused_for_a_false_fact():
         assert complaints, f"{log}: {name}: its own proof says nothing"
         unfit = [l for l in text if re.search("that can be named from here|has no field", l)]
         assert not unfit, f"{log}: {unfit[:1]}"
-        assert any(not re.search(r"error: `[^`]*-requires(-\d+)?`|was not admitted", l) for l in complaints), f"{log}: {name}: only a requirement fails"
+        false = [l for l in complaints if not re.search(HOLLOW, l)]
+        assert false, f"{log}: {name}: only a requirement fails"
+        assert not theorem or any(f"error: `{theorem}`:" in l for l in false), f"{log}: {name}: {theorem} is not refused"
     return f"{len(wrong_builds())} builds in {len(list(CRATES.glob('*/must-fail/*.edit')))} edits"
 
 
 def every_wrong_build_is_named_in_the_calls():
-    named = set(re.findall(r"`(\w+)`", (ROOT / "docs" / "CALLS.md").read_text(encoding="utf8")))
-    names = {name for _, name, _ in wrong_builds()}
-    assert names <= named, names - named
+    """And every name in 'Wrong answers that were tried' is one of a wrong build."""
+    page = (ROOT / "docs" / "CALLS.md").read_text(encoding="utf8")
+    tried = re.search(r"^## Wrong answers that were tried$.*?(?=^## )", page, re.M | re.S).group()
+    named = set(re.findall(r"`(\w+)`", tried))
+    names = {name for _, name, _, _ in wrong_builds()}
+    assert names == named, names ^ named
     return f"{len(names)} names"
 
 
