@@ -5,7 +5,7 @@
 #include <stddef.h>
 #include <stdint.h>
 
-#define MULJENTA_VERSION "1.0.0"
+#define MULJENTA_VERSION "1.1.0"
 
 #ifdef __cplusplus
 extern "C" {

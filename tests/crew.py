@@ -23,7 +23,7 @@ CAUSES = [  # a text, the place of its 9, and words of the sentence
     (b"\n1\n", 1, 1, "the order alone"), (b"0\n", 1, 1, "the order alone"),
     (b"1\n1048577\n", 2, 7, "an entry too large"), (b"2\n1 0\n0 -1048577\n", 3, 10, "an entry too large"),
     (b"3\n1 0 0\n0 1 0\n", 4, 1, "it ends after 2 of 3 rows, a row is missing"), (b"2\n", 2, 1, "it ends after 0 of 2 rows"),
-    (b"2\n1 0\n0", 3, 2, "the file was cut short"), (b"2\n1 0\n0 1", 3, 4, "its last line feed is missing"), (b"2", 1, 2, "the file was cut short"),
+    (b"2\n1 0\n0", 3, 2, "it ends here, the file was cut short"), (b"2\n1 0\n0 1", 3, 4, "its last line feed is missing"), (b"2", 1, 2, "it ends here"),
     (b"", 1, 1, "the file is empty"), (b"2\n1 0\n0 01\n", 3, 4, "a leading zero"), (b"2\n1 -0\n0 1\n", 2, 4, "a zero with a minus sign"),
     (b"2\n1 -\n0 1\n", 2, 4, "a minus sign without a number"), (b"2\n1-1 0\n", 2, 2, "a minus sign within a number"),
     (b"2\n1  0\n0 1\n", 2, 3, "a space too many"), (b"2\n 1 0\n0 1\n", 2, 1, "a space too many"), (b"2\n1 0 \n0 1\n", 2, 4, "a space at the end of the line"),

@@ -18,7 +18,13 @@ BELIEVED = [
 ]
 MOST_BELIEVED = 450
 
-# How docs/RULES.md cites: names in backticks, and in brackets the file below crates/ that defines them.
+# The public calls, by file.
+CALLS = {
+    "tables/src/lib.rt": ["row"], "lifting/src/lib.rt": ["lift", "block"], "verdict/src/lib.rt": ["verdict", "inverse"],
+    "host/src/lib.rt": ["muljenta_verdict", "muljenta_inverse"], "sheets/src/lib.rt": ["read"], "reports/src/lib.rt": ["report"],
+}
+
+# How the docs cite: names in backticks, and in brackets the file below crates/ that defines them.
 FILE = r"\w+/(?:specs|proofs|src)/[\w/+]+\.(?:antt|rt)"
 CITATION = rf"(`[^`\s]+`(?:, `[^`\s]+`)*) \(({FILE})\)"
 
@@ -63,12 +69,14 @@ def every_definition_file_opens_with_its_names():
     return f"{len(files)} files"
 
 
-def citations():
-    """The names that docs/RULES.md cites, each with its file. No file may stand there in another form, or its names would not be looked up."""
-    text = " ".join((ROOT / "docs" / "RULES.md").read_text(encoding="utf8").split())
-    other = re.findall(FILE, re.sub(CITATION, "", text))
-    assert not other, f"no citations: {other}"
-    return [(name, file) for names, file in re.findall(CITATION, text) for name in names.replace("`", "").split(", ")]
+def words(page):
+    """A page's text in one line."""
+    return " ".join(page.read_text(encoding="utf8").split())
+
+
+def citations(page):
+    """The names that a page cites, each with its file."""
+    return [(name, file) for names, file in re.findall(CITATION, words(page)) for name in names.replace("`", "").split(", ")]
 
 
 def defines(path, name):
@@ -84,16 +92,21 @@ def defines(path, name):
     return found and (not part or re.search(rf"^ +(?:pub )?{part} :", found.group(1), re.M))
 
 
-def the_rules_cite_what_is_defined():
-    cited = citations()
-    absent = [f"{name} ({file})" for name, file in cited if not defines(CRATES / file, name)]
+def the_docs_cite_what_is_defined():
+    pages = [*ROOT.glob("*.md"), *ROOT.glob("docs/*.md")]
+    cited = [(page.name, name, file) for page in pages for name, file in citations(page)]
+    absent = [f"{page}: {name} ({file})" for page, name, file in cited if not defines(CRATES / file, name)]
     assert cited and not absent, absent
     return f"{len(cited)} citations"
 
 
 def the_rules_cite_every_definition_to_believe():
-    """So the page is whole: what a public promise rests on is said there in words."""
-    cited = {(file, name.partition(".")[0]) for name, file in citations()}
+    """So the page is whole: what a public promise rests on is said there in words. No file may stand there in another form, or its names would not be
+    looked up."""
+    page = ROOT / "docs" / "RULES.md"
+    other = re.findall(FILE, re.sub(CITATION, "", words(page)))
+    assert not other, f"no citations: {other}"
+    cited = {(file, name.partition(".")[0]) for name, file in citations(page)}
     believed = [(file, name) for file in BELIEVED for name in definitions(CRATES / file)]
     absent = [f"{name} ({file})" for file, name in believed if (file, name) not in cited]
     assert not absent, absent
@@ -149,18 +162,39 @@ def every_wrong_build_is_named_in_the_calls():
     return f"{len(names)} names"
 
 
+def public_functions(path):
+    """The public functions of a source file, as crates that call them write them: crate::module::Type::function."""
+    crate, module = path.parts[-3], path.stem
+    found, owner = [], ""
+    for line in path.read_text(encoding="utf8").splitlines():
+        if begins := re.match(r"impl (\w+)", line):
+            owner = begins.group(1)
+        elif line == "}":
+            owner = ""
+        elif name := re.match(r' *pub (?:extern "C" )?fn (\w+)', line):
+            found.append("::".join(part for part in (crate, "" if module == "lib" else module, owner, name.group(1)) if part))
+    return found
+
+
+def every_inner_function_is_in_the_calls():
+    """What is pub and no call has its line in 'Inner functions', where a::{b, c} stands for a::b and a::c. (Exports for tests have one line.)"""
+    page = (ROOT / "docs" / "CALLS.md").read_text(encoding="utf8").partition("## Inner functions")[2]
+    named = [(path, name) for cell in re.findall(r"^\| (.*?) \|", page, re.M) for path, name in re.findall(r"`([\w:]+)::\{?([\w, ]+)\}?`", cell)]
+    listed = {f"{path}::{name}" for path, names in named for name in names.split(", ")}
+    calls = {f"{file.split('/')[0]}::{name}" for file, names in CALLS.items() for name in names}
+    public = {name for path in CRATES.glob("*/src/*.rt") if "probe" not in path.parts for name in public_functions(path)}
+    assert listed == public - calls, listed ^ (public - calls)
+    return f"{len(listed)} functions"
+
+
 def public_calls_require_nothing():
-    calls = {
-        "tables/src/lib.rt": ["row"], "lifting/src/lib.rt": ["lift", "block"], "verdict/src/lib.rt": ["verdict", "inverse"],
-        "host/src/lib.rt": ["muljenta_verdict", "muljenta_inverse"], "sheets/src/lib.rt": ["read"], "reports/src/lib.rt": ["report"],
-    }
-    for name, functions in calls.items():
+    for name, functions in CALLS.items():
         text = (CRATES / name).read_text(encoding="utf8")
         for function in functions:
             head = re.search(rf"pub (?:extern \"C\" )?fn {function}\(.*?\n\{{", text, re.S)
             assert head and "requires" not in head.group(), f"{name}: {function}"
             assert "ensures" in head.group(), f"{name}: {function}"
-    return f"{sum(map(len, calls.values()))} calls"
+    return f"{sum(map(len, CALLS.values()))} calls"
 
 
 def the_header_has_the_version_of_the_changelog():
@@ -173,7 +207,8 @@ def the_header_has_the_version_of_the_changelog():
 def checks(lib):
     return [
         layout, definitions_to_believe, no_shortcut, every_definition_file_opens_with_its_names,
-        the_rules_cite_what_is_defined, the_rules_cite_every_definition_to_believe,
-        wrong_builds_are_refused_for_a_false_fact, every_wrong_build_is_named_in_the_calls, public_calls_require_nothing,
+        the_docs_cite_what_is_defined, the_rules_cite_every_definition_to_believe,
+        wrong_builds_are_refused_for_a_false_fact, every_wrong_build_is_named_in_the_calls, every_inner_function_is_in_the_calls,
+        public_calls_require_nothing,
         the_header_has_the_version_of_the_changelog,
     ]

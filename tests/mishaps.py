@@ -82,10 +82,10 @@ def on_a_small_disk(text, told):
 
 
 def sheets_that_cannot_be_read():
-    """A read of /proc/self/mem fails for everybody, also for root."""
+    """A read of a process's memory at 0 fails for everybody, also for root."""
     with night({"folder.sheet/x": b""}) as tonight:
         os.mkfifo(tonight.folder / "pipe.sheet")
-        (tonight.folder / "mem.sheet").symlink_to("/proc/self/mem")
+        (tonight.folder / "mem.sheet").symlink_to(f"/proc/{os.getpid()}/mem")
         (tonight.folder / "loop.sheet").symlink_to("loop.sheet")
         cases = {"mem.sheet": "cannot be read", "folder.sheet": "a folder or a device", "pipe.sheet": "a folder or a device", "loop.sheet": "no such file",
                  "missing.sheet": "no such file", "folder.sheet/missing": "no such file", "": "a folder or a device"}
@@ -95,8 +95,8 @@ def sheets_that_cannot_be_read():
             cases["closed.sheet"] = "cannot be read"
         for name, words in cases.items():
             tonight.gives_none(words, name)
-        assert "no such file" in tonight.run("no/folder/a.sheet")[0]
-    return f"{len(cases) + 1} names"
+        assert all("no such file" in sentence for sentence in tonight.run("no/folder/a.sheet", "none/a.inverse"))
+    return f"{len(cases) + 2} names"
 
 
 def old_results():
@@ -110,14 +110,18 @@ def old_results():
         (tonight.folder / "a.inverse").symlink_to("elsewhere")
         tonight.run("a.sheet")
         assert tonight["a.inverse"] == WHOLE and tonight["elsewhere"] == OLD and not (tonight.folder / "a.inverse").is_symlink()
-        for name in ("none.inverse", "a.inverse"):  # a folder stands there
+        folders = ["none.inverse", "a.inverse", "missing.inverse"]
+        for name in folders:
             (tonight.folder / name).unlink(missing_ok=True)
             (tonight.folder / name).mkdir()
-        said = tonight.run("none.sheet", "a.sheet")
+        said = tonight.run("none.sheet", "a.sheet", "missing.sheet")
         assert all("could not be taken away or came back; do not use it" in sentence for sentence in said), said
-        assert not any((tonight.folder / "a.inverse").iterdir())
+        tonight["b.sheet"] = GOOD
+        tonight.command("comes", "mkdir b.inverse; exec certify")
+        assert "cannot be put at b.inverse" in tonight.run("b.sheet", certify="comes")[0]
+        assert not any(any((tonight.folder / name).iterdir()) for name in [*folders, "b.inverse"])
         assert "no file can be made beside it" in tonight.run("/proc/version")[0]
-    return "4 sheets, a link, 2 folders, a place where none can be made"
+    return "4 sheets, a link, 3 folders and one that comes meanwhile, a place where none can be made"
 
 
 NAMES = [
@@ -188,12 +192,17 @@ def how_it_is_called():
         with tonight.start([]) as running:
             assert running.stderr.read() == b"usage: certify-sheets SHEET..\n" and heard(running) == "" and running.returncode == 1
         tonight.gives(WHOLE, "a.sheet", certify="env certify")
+        tonight["a*"] = WHOLE
+        tonight.gives(WHOLE, "a.sheet", certify="cat a*")  # a word, and no pattern
         for umask in (0o022, 0o077, 0o002):
             tonight.gives(WHOLE, "a.sheet", umask=umask)
             assert (tonight.folder / "a.inverse").stat().st_mode & 0o777 == 0o666 & ~umask
+        tonight["mine"] = b"mine"
+        tonight.gives_none("no such file", "missing.sheet", before=["env", "part=mine", "result=mine", "named=mine"])
+        assert tonight["mine"] == b"mine"  # the caller's own variables are not the script's
         with open("/dev/full", "wb") as full, tonight.start(["a.sheet"], stdout=full) as running:
             assert running.wait(60) == 1, "a sentence that cannot be said is no success"
-    return "no names, CERTIFY of two words, 3 umasks, nowhere to speak"
+    return "no names, 2 commands of two words, 3 umasks, nowhere to speak"
 
 
 def checks(lib):

@@ -8,11 +8,11 @@ use lib.Seq.{take-at}
 use Rattle.io.proofs.Counting.{counts}
 use Rattle.reports.specs.Report.{IsReport, ReportGives, no-room, room}
 use Rattle.reports.proofs.Cut.{report-cut}
-use Rattle.certify.specs.Program.{Asked, Answers}
+use Rattle.certify.specs.Program.{Asked, Prints}
 
-pub answers : {text old new : List ℕ} {n r : ℕ} → Asked text n old → ReportGives (take n text) old r new → Answers text n new r
-answers a (no-room l) = absurd (omega (arith, a .out-size))
-answers {text} {old} {n = n} a (room R l h) = record {
+pub prints : {text old new : List ℕ} {n r : ℕ} → Asked text n old → ReportGives (take n text) old r new → Prints text n new r
+prints a (no-room l) = absurd (omega (arith, a .out-size))
+prints {text} {old} {n = n} a (room R l h) = record {
   within = counts (length R) (R ++ drop (length R) old) (omega (arith, length-append R (drop (length R) old)));
   report = λ t e.
       let f : take n text ≡ take 9220 t = sym e ∙ ap (λ (k : ℕ). take k t) (a .text-size) in

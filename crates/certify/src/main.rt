@@ -1,5 +1,5 @@
 // Reads a sheet on standard input and prints its report.
-ghost use Rattle.certify.specs.Program.{Asked, Answers};
+ghost use Rattle.certify.specs.Program.{Asked, Prints};
 use libc::STDIN_FILENO;
 use libc::STDOUT_FILENO;
 
@@ -17,7 +17,7 @@ fn main() {
 // Puts the report of an input into out, of which so many bytes are read into the text; gives the count of the report's bytes.
 fn answer(text: &[u8], read: usize, out: &mut [u8]) -> usize
     requires { ⌜ Asked (now text) read (now out) ⌝ }
-    ensures { λ r. ⌜ Answers (now (text .entry)) read (now (out .exit)) r ⌝ }
+    ensures { λ r. ⌜ Prints (now (text .entry)) read (now (out .exit)) r ⌝ }
 {
     reports::report(&text[..read], out)
 }

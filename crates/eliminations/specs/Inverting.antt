@@ -1,4 +1,4 @@
--- The inverse modulo X, by the elimination on tables of residues (`residues`, Residues.antt). The first name is the answer of `elimination::inverse`;
+-- The inverse modulo X, by the elimination on tables of residues (`residues`, Residues.antt). The first name is the answer of `inverting::inverse`;
 -- the others are the vocabulary of inner contracts, which a reader of the calls can skip. The elimination's columns are the rows here: it works on the tables turned over.
 --   Inverted n X A o old new   block o holds some inverse of A modulo X, of magnitude at most 2^32, and every other block is as it was
 --   Spans n c p                n is at most 32, and both lists hold a table

@@ -196,7 +196,7 @@ pub fn cell(n: usize, a: &[i64], p: usize, i: usize, k: usize) -> i64
 }
 
 // 1 on the diagonal, 0 elsewhere.
-fn unit(i: usize, j: usize) -> i64
+pub fn unit(i: usize, j: usize) -> i64
     ensures { λ r. ⌜ r ≡ δ i j ⌝ }
 {
     if i == j { 1 } else { 0 }

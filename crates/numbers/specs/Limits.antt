@@ -6,7 +6,7 @@
 --   Lawful n A         the list A may be a table of order n: order, length and entries are right
 --   IsNarrow v         v has the width of an inverse's entry: its magnitude is at most 2^37
 --   lentRefusals P A   3 where a lent buffer has a wrong length, which is P; then 4 where the table A has an entry outside the range
---   tableRefusals n P A   the same after 1, where n is no order: so begins every call that takes a table alone
+--   tableRefusals n P A   the same after 1, where n is no order: so begins every list but lift's
 use mathlib.Core.Path.{_≡_}
 use mathlib.Core.List.{List, [], _∷_}
 use Prim.Native.Nat.{ℕ, _*_, _^_, _≤_}

@@ -5,7 +5,7 @@
 --   certificate n o E      this line, and after 0 the inverse E, n lines of n figures
 --   IsCertificate n es R   R is the certificate of what the inverse call gives for the entries es, lent n² numbers
 --   IsReport t R           R is the report of the text t: the line of 9, line, column and reason, or the certificate of a sheet
---   enough                 so many bytes have room for every report
+--   reportRoom             so many bytes have room for every report
 --   ReportGives t old r new    what report gives and leaves of the lent output old: where it is shorter than that, 0 and the output as it was; else the report of
 --                          t first in it, with its length, and the bytes after it as they were
 use mathlib.Core.Path.{_≡_}
@@ -44,9 +44,9 @@ pub data IsReport (t : List ℕ) : List ℕ → Type 0 where
   no-sheet : (fs : List ℕ) → NoSheet t fs → IsReport t (line (figures (9 ∷ fs)))
   of-sheet : (n : ℕ) (es : List ℤ) (R : List ℕ) → IsSheet t n es → IsCertificate n es R → IsReport t R
 
-abbrev pub enough : ℕ
-enough = 14352
+abbrev pub reportRoom : ℕ
+reportRoom = 14352
 
 pub data ReportGives (t old : List ℕ) : ℕ → List ℕ → Type 0 where
-  no-room : length old < enough → ReportGives t old 0 old
-  room : (R : List ℕ) → enough ≤ length old → IsReport t R → ReportGives t old (length R) (R ++ drop (length R) old)
+  no-room : length old < reportRoom → ReportGives t old 0 old
+  room : (R : List ℕ) → reportRoom ≤ length old → IsReport t R → ReportGives t old (length R) (R ++ drop (length R) old)

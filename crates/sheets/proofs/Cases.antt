@@ -48,14 +48,14 @@ open-unfinished t (Body n es s) e o = body-open t n es s (ltb→lt (length es) (
 open-unfinished t Dead e o = absurd o
 
 -- the text is answered by the figures, and every table is left as it was
-abbrev pub Answers : List ℕ → List ℕ → Type 0
-Answers t fs = (old : List ℤ) → length old ≡ 1024 → ReadSays t old fs old
+abbrev pub Refuses : List ℕ → List ℕ → Type 0
+Refuses t fs = (old : List ℤ) → length old ≡ 1024 → ReadSays t old fs old
 
 -- byte k is wrong, or the text ends too early: both computed
-byte-wrong : (t : List ℕ) (k : ℕ) → k < length t → Alive (after (take k t)) → after (take (suc k) t) ≡ Dead → Answers t (9 ∷ lineAt t k ∷ columnAt t k ∷ 1 ∷ [])
+byte-wrong : (t : List ℕ) (k : ℕ) → k < length t → Alive (after (take k t)) → after (take (suc k) t) ≡ Dead → Refuses t (9 ∷ lineAt t k ∷ columnAt t k ∷ 1 ∷ [])
 byte-wrong t k l a d old s = refused _ s (byte k l (alive-begins (take k t) a) (no-beginning (take (suc k) t) d))
 
-end-wrong : (t : List ℕ) → Open (after t) → Answers t (9 ∷ lineAt t (length t) ∷ columnAt t (length t) ∷ 2 ∷ [])
+end-wrong : (t : List ℕ) → Open (after t) → Refuses t (9 ∷ lineAt t (length t) ∷ columnAt t (length t) ∷ 2 ∷ [])
 end-wrong t o old s = refused _ s (ended (alive-begins t (open-alive (after t) o)) (open-unfinished t (after t) refl o))
 
 -- a text and the figures of its answer
@@ -75,7 +75,7 @@ cases =
 infixr 3 _and_
 pub data Answered : List Case → Type 0 where
   all : Answered []
-  _and_ : {c : Case} {cs : List Case} → Answers (bytes (c .text)) (c .figures) → Answered cs → Answered (c ∷ cs)
+  _and_ : {c : Case} {cs : List Case} → Refuses (bytes (c .text)) (c .figures) → Answered cs → Answered (c ∷ cs)
 
 pub tried : Answered cases
 unfolding cases

@@ -3,7 +3,7 @@ ghost use mathlib.Core.Path.{_≡_};
 ghost use mathlib.Core.List.{[]};
 ghost use Prim.Native.Nat.{_≤_, _<_};
 ghost use lib.ListN.{length, drop};
-ghost use Rattle.sheets.specs.Model.{refusal, moved, scan, Sane, Ready, Body, Entered, closing, entryForm};
+ghost use Rattle.sheets.specs.Model.{refusal, moved, scan, Sane, Arrived, Body, Entered, closing, entryForm};
 use super::Place;
 use super::Reason;
 use super::number::Form;
@@ -37,7 +37,7 @@ impl Cursor {
         n: usize,
         table: &mut [i64; numbers::MOST_CELLS],
     ) -> Rest
-        requires { ⌜ (Ready (now text) self (Body n [] Seen.Nothing)) × (length (now table) ≡ 1024) ⌝ }
+        requires { ⌜ (Arrived (now text) self (Body n [] Seen.Nothing)) × (length (now table) ≡ 1024) ⌝ }
         ensures { λ r. ⌜ Entered (now (text .entry)) n r (now (table .exit)) ⌝ }
     {
         let mut c = self;

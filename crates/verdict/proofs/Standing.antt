@@ -1,30 +1,37 @@
 -- The inverse in the buffer of the work: it stands in block 0, whose numbers are those of an output.
-use mathlib.Core.Path.{_≡_, refl, sym, subst, _∙_}
+use mathlib.Core.Path.{_≡_, refl, sym, ap, subst, _∙_}
 use mathlib.Core.Logic.{_≢_}
 use mathlib.Core.List.{List}
-use Prim.Native.Nat.{ℕ, _*_, _<_}
+use Prim.Native.Nat.{ℕ, _+_, _*_, _<_}
 use native.Mathlib.Omega.{arith}
 use lib.IntN.{ℤ, pos}
-use lib.ListN.{length, take}
+use lib.Arith.{digits-lt}
+use lib.ListN.{length, getD, take}
 use lib.Seq.{length-take-le, getD-take, ext-getD}
-use Rattle.numbers.specs.Limits.{IsOrder}
+use Rattle.numbers.specs.Limits.{IsOrder, IsNarrow}
 use Rattle.numbers.specs.Refusals.{Gives}
-use Rattle.tables.specs.Tables.{entries, block}
+use Rattle.tables.specs.Tables.{_≈⟨_⟩_, entries, block}
+use Rattle.tables.proofs.Algebra.Matrix.{≈-refl, ≈-trans, ·-cong}
 use Rattle.tables.specs.Buffer.{Copied}
 use Rattle.tables.proofs.Buffers.Places.{square-small}
 use Rattle.verdict.specs.Verdict.{Narrow, IsNarrowInverse, inverseRefusals, InverseGives}
 use Rattle.verdict.specs.Parts.{Summed, Standing}
 use Rattle.verdict.specs.declared.Outcome.{Outcome}
-use Rattle.verdict.proofs.Width.{written}
 
 -- the numbers of block 0
 pub front-size : {n : ℕ} (M : List ℤ) → IsOrder n → length M ≡ 4096 → length (take (n * n) M) ≡ n * n
 front-size {n} M order long = length-take-le (n * n) M (omega (arith, square-small (order .upto)))
 
--- they are a copy of themselves
+-- they are its entries
+front-same : (n : ℕ) (M : List ℤ) → entries n (take (n * n) M) ≈⟨ n ⟩ block n M 0
+front-same n M i j a b = let e : i * n + j ≡ 0 * (n * n) + (i * n + j) = omega arith in getD-take (n * n) M (i * n + j) (pos 0) (digits-lt a b) ∙ ap (λ (m : ℕ). getD M m (pos 0)) e
+
 pub standing : {n : ℕ} {A M : List ℤ} → IsOrder n → length M ≡ 4096 → Summed n A M → Narrow n (block n M 0) → IsNarrowInverse n (entries n A) (take (n * n) M)
-standing {n} {A} {M} order long sum narrow =
-    written {O = take (n * n) M} sum (front-size M order long) narrow (record { long = refl; same = λ k h. getD-take (n * n) M k (pos 0) h; rest = λ k h. refl })
+standing {n} {A} {M} order long sum narrow = record {
+  size = front-size M order long;
+  right = ≈-trans (·-cong n (≈-refl n (entries n A)) (front-same n M)) (sum .right);
+  narrow = λ i j a b. subst (λ (z : ℤ). IsNarrow z) (sym (front-same n M i j a b)) (narrow i j a b);
+}
 
 -- an output counts by its length alone: what stands is what the inverse call gives in any output of n² numbers
 module _ {n : ℕ} {A M : List ℤ} {o : Outcome} (order : IsOrder n) (long : length M ≡ 4096) (stands : Standing n A o M) where

@@ -9,7 +9,10 @@ ghost use Rattle.numbers.specs.Numbers.{IsLifts};
 ghost use Rattle.lifting.specs.Lifting.{IsStart};
 ghost use Rattle.lifting.specs.Steps.{Setting, Stage};
 ghost use Rattle.verdict.specs.Verdict.{Narrow, IsNarrowInverse, outcomeOf, VerdictGives, InverseGives};
-ghost use Rattle.verdict.specs.Parts.{Found, Fails, Leaves, NoneNarrow, Covers, Summed, Standing};
+ghost use Rattle.verdict.specs.Parts.{FindingTells, Fails, Leaves, NoneNarrow, Covers, Summed, Standing};
+
+// A second digit beyond it passes the width, whatever the first is: 2^23.
+const MOST_DIGIT: u64 = 8388608;
 
 // The buffer for the work: four blocks of the largest order.
 pub const BUFFER: usize = 4096;
@@ -64,7 +67,7 @@ fn find(n: usize, e: u32, k: u32, a: &[i64], buf: &mut [i64]) -> Finding
     requires { ⌜ Setting n (2 ^ e) (now a) ⌝ }
     requires { ⌜ IsLifts n k ⌝ }
     requires { ⌜ length (now buf) ≡ 4096 ⌝ }
-    ensures { λ r. ⌜ Found n (2 ^ e) (now (a .entry)) (now (buf .exit)) r ⌝ }
+    ensures { λ r. ⌜ FindingTells n (2 ^ e) (now (a .entry)) (now (buf .exit)) r ⌝ }
 {
     if !eliminations::parity::has_inverse(n, a) {
         return Finding::NoneModulo2;
@@ -171,7 +174,7 @@ fn digits(n: usize, e: u32, a: &[i64], buf: &mut [i64]) -> bool
     if !kernels::blocks::vanishes(n, buf, 1) {
         return false;
     }
-    if !kernels::blocks::within(n, buf, 2, 8388608) {
+    if !kernels::blocks::within(n, buf, 2, MOST_DIGIT) {
         return false;
     }
     kernels::blocks::extend(n, e, buf, 0, 2);

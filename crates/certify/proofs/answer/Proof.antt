@@ -1,5 +1,5 @@
 use borrow.Author.Needs.{needs}
-use Rattle.certify.proofs.Printed.{answers}
+use Rattle.certify.proofs.Printed.{prints}
 use Rattle.certify.proofs.answer.Statement.{statement}
 use Rattle.certify.proofs.answer.Tie as tie
 
@@ -13,7 +13,7 @@ same-length : tie.Need-same-length
 same-length c = search needs
 
 returns : tie.Need-returns
-returns c = answers (c .before .before .before .before .before .before .before .pre) (c .before .before .report .ensures)
+returns c = prints (c .before .before .before .before .before .before .before .pre) (c .before .before .report .ensures)
 
 pub answer-spec : {M : Type 1} → statement M
 answer-spec = tie.close (tie.spec slice-aggregate-report report-requires same-length returns)

@@ -2,15 +2,14 @@
 -- go to block 3. The other columns of F are lifted in the mind alone.
 use mathlib.Core.Path.{_≡_, sym, subst, _∙_}
 use mathlib.Core.List.{List}
-use Prim.Native.Nat.{ℕ, suc, _+_, _*_, _^_, _≤_}
+use Prim.Native.Nat.{ℕ, _+_, _*_, _^_, _≤_}
 use native.Mathlib.Numerals.{add-one}
 use native.Mathlib.Omega.{arith}
 use lib.IntN.{ℤ, natAbs}
 use lib.ListN.{length}
 use Rattle.tables.specs.Tables.{Matrix, Below, _≈⟨_⟩_, block, entries, height}
-use Rattle.tables.specs.Buffer.{Low, Has}
-use Rattle.kernels.specs.Columns.{ColumnLow}
-use Rattle.tables.proofs.Algebra.Matrix.{≈-refl, ≈-sym, ≈-trans}
+use Rattle.tables.specs.Buffer.{Has}
+use Rattle.tables.proofs.Algebra.Matrix.{≈-sym, ≈-trans}
 use Rattle.lifting.specs.Linear.{IsLinear}
 use Rattle.lifting.specs.Steps.{Stage, SameColumn, nextResidue, ToColumnDigit, ColumnDigited}
 use Rattle.lifting.proofs.Expansions.Stands.{Stands}

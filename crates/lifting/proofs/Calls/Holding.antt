@@ -1,8 +1,7 @@
 -- Residues in a buffer, with B_0 in block 0: what a loop over steps keeps. The exponent 32 is enough for every lawful table.
-use mathlib.Core.Path.{_≡_}
 use mathlib.Core.Logic.{_≢_}
 use mathlib.Core.List.{List}
-use Prim.Native.Nat.{ℕ, suc, _+_, _*_, _^_, _≤_, _<_}
+use Prim.Native.Nat.{ℕ, suc, _+_, _*_, _^_, _≤_}
 use native.Mathlib.Omega.{arith}
 use native.Mathlib.Nat.{mul-le-mul, le-refl}
 use lib.IntN.{ℤ, pos, natAbs}

@@ -17,48 +17,48 @@ use Rattle.numbers.proofs.Algebra.IntRing.{eq-of-sub, sub-zero}
 use Rattle.numbers.proofs.Algebra.Polynomials.{eval-isZero, sound}
 pub use Rattle.numbers.proofs.Algebra.Polynomials.{Expr, var, num, _⊕_, _⊖_, _⊗_, ⊝_, #_, value, norm, isZero}
 
--- ---- claims: an equation, perhaps under hypotheses
+-- ---- assertions: an equation, perhaps under hypotheses
 
 infix 4 _≐_
 infixr 3 if_is_by_then_
-pub data Claim : Type 0 where
-  _≐_ : Expr → Expr → Claim
-  if_is_by_then_ : Expr → Expr → Expr → Claim → Claim
+pub data Assertion : Type 0 where
+  _≐_ : Expr → Expr → Assertion
+  if_is_by_then_ : Expr → Expr → Expr → Assertion → Assertion
 
-abbrev pub Says : (ℕ → ℤ) → Claim → Type 0
-Says ρ (l ≐ r) = value ρ l ≡ value ρ r
-Says ρ (if l is r by c then k) = value ρ l ≡ value ρ r → Says ρ k
+abbrev pub Asserts : (ℕ → ℤ) → Assertion → Type 0
+Asserts ρ (l ≐ r) = value ρ l ≡ value ρ r
+Asserts ρ (if l is r by c then k) = value ρ l ≡ value ρ r → Asserts ρ k
 
 -- the difference of the sides, less the hypotheses' by their factors
-abbrev pub gap : Claim → Expr
+abbrev pub gap : Assertion → Expr
 gap (l ≐ r) = l ⊖ r
 gap (if l is r by c then k) = gap k ⊖ c ⊗ (l ⊖ r)
 
-says : (ρ : ℕ → ℤ) (k : Claim) → value ρ (gap k) ≡ pos 0 → Says ρ k
-says ρ (l ≐ r) z = eq-of-sub (value ρ l) (value ρ r) z
-says ρ (if l is r by c then k) z = λ e.
-    says ρ k
+asserts : (ρ : ℕ → ℤ) (k : Assertion) → value ρ (gap k) ≡ pos 0 → Asserts ρ k
+asserts ρ (l ≐ r) z = eq-of-sub (value ρ l) (value ρ r) z
+asserts ρ (if l is r by c then k) z = λ e.
+    asserts ρ k
     (eq-of-sub (value ρ (gap k)) (value ρ (c ⊗ (l ⊖ r))) z ∙ ap (λ x. value ρ c *ℤ x) (sub-zero e) ∙ *ℤ-zero (value ρ c))
 
--- ---- a claim for all integers. The last variable is number 0, so that the integers stand on a stack
+-- ---- an assertion for all integers. The last variable is number 0, so that the integers stand on a stack
 
 abbrev pub Under : ℕ → Type 0
-Under zero = Claim
+Under zero = Assertion
 Under (suc n) = Expr → Under n
 
 abbrev pub passes : (n : ℕ) → Under n → Bool
 passes zero k = isZero (norm (gap k))
 passes (suc n) f = passes n (f (var n))
 
-abbrev pub Holds : (n : ℕ) → Under n → List ℤ → Type 0
-Holds zero k xs = Says (λ i. getD xs i (pos 0)) k
-Holds (suc n) f xs = (x : ℤ) → Holds n (f (var n)) (x ∷ xs)
+abbrev pub AssertsAll : (n : ℕ) → Under n → List ℤ → Type 0
+AssertsAll zero k xs = Asserts (λ i. getD xs i (pos 0)) k
+AssertsAll (suc n) f xs = (x : ℤ) → AssertsAll n (f (var n)) (x ∷ xs)
 
-prove : (n : ℕ) (f : Under n) → T (passes n f) → (xs : List ℤ) → Holds n f xs
+prove : (n : ℕ) (f : Under n) → T (passes n f) → (xs : List ℤ) → AssertsAll n f xs
 prove zero k t xs =
     let ρ : ℕ → ℤ = λ i. getD xs i (pos 0) in
-    says ρ k (sym (sound ρ (gap k)) ∙ eval-isZero ρ (norm (gap k)) t)
+    asserts ρ k (sym (sound ρ (gap k)) ∙ eval-isZero ρ (norm (gap k)) t)
 prove (suc n) f t xs = λ x. prove n (f (var n)) t (x ∷ xs)
 
-pub ring : (n : ℕ) (f : Under n) → T (passes n f) → Holds n f []
+pub ring : (n : ℕ) (f : Under n) → T (passes n f) → AssertsAll n f []
 ring n f t = prove n f t []

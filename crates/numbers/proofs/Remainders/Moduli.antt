@@ -12,11 +12,11 @@ exponent-below e k h = elim (decLt e k) [
   | no f ↦ absurd (omega (arith, pow-mono {i = k} {j = e} (omega arith)))
 ]
 
-pub exponent-most : {e : ℕ} → 2 ^ e ≤ 2 ^ 32 → e ≤ 32
-exponent-most {e} h = let l = exponent-below e 33 (omega arith) in omega arith
+pub exponent-upto : {e : ℕ} → 2 ^ e ≤ 2 ^ 32 → e ≤ 32
+exponent-upto {e} h = let l = exponent-below e 33 (omega arith) in omega arith
 
 pub exponent-of : {e : ℕ} → IsModulus (2 ^ e) → (1 ≤ e) × (e ≤ 32)
-exponent-of {e} m = (exponent-below 0 e (m .from), exponent-most (m .upto))
+exponent-of {e} m = (exponent-below 0 e (m .from), exponent-upto (m .upto))
 
 pub suits-modulus : {n h X : ℕ} → Suits n h X → IsModulus X
 suits-modulus s = record { from = omega (arith, s .from); upto = s .upto }

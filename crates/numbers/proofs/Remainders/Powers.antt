@@ -1,8 +1,7 @@
--- Powers: one divides every greater one.
+-- Powers of a number: the first, and that one divides every greater one.
 use mathlib.Core.Path.{_≡_, ap, _∙_}
 use Prim.Native.Nat.{ℕ, _+_, _-_, _*_, _^_, _≤_}
 use native.Mathlib.Nat.{pow-suc, pow-zero, one-mul}
-use native.Mathlib.Numerals.{add-one}
 use native.Mathlib.Omega.{arith}
 use lib.IntN.{pos, _-ℤ_}
 use lib.Pow.{pow-add}
@@ -11,9 +10,6 @@ use Rattle.numbers.proofs.Remainders.Congruence.{Cong}
 
 pub power-one : (b : ℕ) → b ^ 1 ≡ b
 power-one b = pow-suc b 0 ∙ ap (λ (m : ℕ). m * b) (pow-zero b) ∙ one-mul b
-
-pub power-more : (b m : ℕ) → b ^ (m + 1) ≡ b ^ m * b
-power-more b m = ap (λ (q : ℕ). b ^ q) (add-one m) ∙ pow-suc b m
 
 pub power-divides : (b : ℕ) {e j : ℕ} → e ≤ j → Cong (pos (b ^ e)) (pos (b ^ j)) (pos 0)
 power-divides b {e} {j} h = record {

@@ -25,7 +25,7 @@ use Rattle.sheets.specs.declared.cursor.Rest.the-variants.{Whole, Short}
 use Rattle.sheets.specs.declared.Answer.the-variants.{Sheet, Refused}
 use Rattle.sheets.specs.Answer.{NoSheet, ReadSays, read, refused, placeOf, figuresOf}
 use Rattle.sheets.specs.Digits.{afterByte, Allowed}
-use Rattle.sheets.specs.Model.{refusal, moved, ahead, scan, orderForm, Body, Ready, Filled, Entered}
+use Rattle.sheets.specs.Model.{refusal, moved, ahead, scan, orderForm, Body, Arrived, Filled, Entered}
 use Rattle.numbers.proofs.Machine.{rd, rd-ok}
 use Rattle.sheets.proofs.Reading.Scan.{small}
 use Rattle.sheets.proofs.Stages.Numerals.{Fine, fine, Numeral}
@@ -66,7 +66,7 @@ module _ (t : List ℕ) (r : Found) (a : r ≡ scan orderForm Nothing start (dro
         let h : natAbs z ≤ 32 = order .size in
         rw reads (plain-sign z ((order .plain refl) .0), record { fits = omega arith })
 
-    pub order-ready : Ready t c (Body (natAbs (rd z)) [] Nothing)
+    pub order-ready : Arrived t c (Body (natAbs (rd z)) [] Nothing)
     order-ready = rw reads (order-read t start z c (ready-start t) (sym a ∙ e))
 
   pub order-refused : (p : Place) → r ≡ Bad p → NoSheet t (placeOf p)

@@ -16,14 +16,14 @@ use Rattle.sheets.specs.declared.cursor.Found.{Found}
 use Rattle.sheets.specs.declared.cursor.Found.the-variants.{Number, Bad}
 use Rattle.numbers.specs.Limits.{IsEntry, Legal}
 use Rattle.sheets.specs.Answer.{NoSheet, placeOf}
-use Rattle.sheets.specs.Model.{scan, entryForm, Body, Ready, Filled}
+use Rattle.sheets.specs.Model.{scan, entryForm, Body, Arrived, Filled}
 use Rattle.numbers.proofs.Machine.{rd, rd-ok}
 use Rattle.sheets.proofs.Reading.Scan.{small}
 use Rattle.sheets.proofs.Stages.States.{InBody}
 use Rattle.sheets.proofs.Reading.Turns.{ready-body, entry-read, entry-bad}
 
 pub record Reading (t : List ℕ) (n : ℕ) (c : Cursor) (p : ℕ) (l : List ℤ) : Type 0 where
-  pub ready : Ready t c (Body n (take p l) Nothing)
+  pub ready : Arrived t c (Body n (take p l) Nothing)
   pub count : p ≤ n * n
   pub size : length l ≡ 1024
 
@@ -48,7 +48,7 @@ module _ {t : List ℕ} {n : ℕ} {c : Cursor} {p : ℕ} {l : List ℤ} (h : Rea
   pub reading-done : n * n ≤ p → Filled t n c l
   reading-done k =
       let e : p ≡ n * n = omega (arith, h .count) in
-      record { ready = subst (λ (k : ℕ). Ready t c (Body n (take k l) Nothing)) e (h .ready); size = h .size }
+      record { ready = subst (λ (k : ℕ). Arrived t c (Body n (take k l) Nothing)) e (h .ready); size = h .size }
 
   module _ (k : p < n * n) where
     -- so many are before it
@@ -71,7 +71,7 @@ module _ {t : List ℕ} {n : ℕ} {c : Cursor} {p : ℕ} {l : List ℤ} (h : Rea
         let q : take (p + 1) (set l p z) ≡ take p l ++ (z ∷ [])
         = ap (λ (i : ℕ). take i (set l p z)) (add-one p) ∙ take-suc-set l p z (omega (arith, reading-cells, h .size)) in
         rw w (record {
-          ready = subst (λ (x : List ℤ). Ready t c′ (Body n x Nothing)) (sym q) g;
+          ready = subst (λ (x : List ℤ). Arrived t c′ (Body n x Nothing)) (sym q) g;
           count = omega arith;
           size = length-set l p z ∙ h .size;
         })

@@ -17,7 +17,7 @@ use Rattle.sheets.specs.declared.cursor.Found.the-variants.{Number, Bad}
 use Rattle.sheets.specs.Sheet.{IsSheet}
 use Rattle.sheets.specs.Answer.{NoSheet, placeOf}
 use Rattle.sheets.specs.Digits.{afterByte}
-use Rattle.sheets.specs.Model.{refusal, moved, ahead, scan, cursorAfter, State, Head, Dead, step, run, Ready}
+use Rattle.sheets.specs.Model.{refusal, moved, ahead, scan, cursorAfter, State, Head, Dead, step, run, Arrived}
 use Rattle.sheets.proofs.Reading.Cursors.{cursor-moved}
 use Rattle.sheets.proofs.Stages.States.{run-append}
 use Rattle.sheets.proofs.Stages.Complete.{Slot}
@@ -26,7 +26,7 @@ use Rattle.sheets.proofs.Stages.Exact.{beginning, no-beginning, no-shee
 module _ {E : Seen → State} {f : Form} {out : Next → State} (slot : Slot E f out) (live : (s : Seen) → E s ≡ Dead → ⊥)
     (short : (t : List ℕ) (s : Seen) → run (Head Nothing) t ≡ E s → (n : ℕ) (es : List ℤ) → ¬ IsSheet t n es) (t : List ℕ) where
   abbrev Linked : Found → Type 0
-  Linked (Number z c) = Ready t c (out (Value z))
+  Linked (Number z c) = Arrived t c (out (Value z))
   Linked (Bad p) = NoSheet t (placeOf p)
 
   -- after the bytes u, s has been seen of the number, and l follows
@@ -52,7 +52,7 @@ module _ {E : Seen → State} {f : Form} {out : Next → State} (slot : Slot E f
       at Stop a next =
           rw p (no-sheet-byte u b l (beginning u (λ (d : run (Head Nothing) u ≡ Dead). live s (sym e ∙ d))) (no-beginning (u ++ (b ∷ [])) (leads Stop a ∙ slot .stop)))
 
-  pub number-found : {c : Cursor} {r : Found} → Ready t c (E Nothing) → scan f Nothing c (drop (c .offset) t) ≡ r → Linked r
+  pub number-found : {c : Cursor} {r : Found} → Arrived t c (E Nothing) → scan f Nothing c (drop (c .offset) t) ≡ r → Linked r
   number-found {c} {r} h e =
       let d : drop (c .offset) t ≡ h .rest
       = ap₂ (λ (x : Cursor) (y : List ℕ). drop (x .offset) y) (h .here) (h .parts) ∙ drop-append-seam (h .before) (h .rest) in

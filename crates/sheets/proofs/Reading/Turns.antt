@@ -16,7 +16,7 @@ use Rattle.sheets.specs.declared.cursor.Found.the-variants.{Number, Bad}
 use Rattle.sheets.specs.Sheet.{IsSheet}
 use Rattle.sheets.specs.Answer.{NoSheet, placeOf}
 use Rattle.sheets.specs.Digits.{afterByte}
-use Rattle.sheets.specs.Model.{refusal, scan, Sane, orderForm, entryForm, State, Head, Body, Dead, inBody, step, run, Ready}
+use Rattle.sheets.specs.Model.{refusal, scan, Sane, orderForm, entryForm, State, Head, Body, Dead, inBody, step, run, Arrived}
 use Rattle.sheets.proofs.Stages.States.{run-append, InBody}
 use Rattle.sheets.proofs.Stages.Complete.{head-slot, body-slot}
 use Rattle.sheets.proofs.Stages.Exact.{beginning, no-beginning, whole, in-body, head-open, body-open, no-sheet-byte}
@@ -26,10 +26,10 @@ use Rattle.sheets.proofs.Reading.Link.{number-found}
 abbrev pub start : Cursor
 start = record { line = 1; column = 1; offset = 0 }
 
-pub ready-start : (t : List ℕ) → Ready t start (Head Nothing)
+pub ready-start : (t : List ℕ) → Arrived t start (Head Nothing)
 ready-start t = record { before = []; rest = t; parts = refl; here = refl; state = refl }
 
-module _ {t : List ℕ} {c : Cursor} {s : State} (h : Ready t c s) where
+module _ {t : List ℕ} {c : Cursor} {s : State} (h : Arrived t c s) where
   pub ready-sane : Sane c
   ready-sane = subst Sane (sym (h .here)) (sane-cursor (h .before))
 
@@ -43,19 +43,19 @@ body-live : (n : ℕ) (es : List ℤ) (s : Seen) → Body n es s ≡ Dead → �
 body-live n es s e = let z : _≡_ {A = ℕ} 0 1 = cc in omega arith
 
 module _ (t : List ℕ) (c : Cursor) where
-  pub ready-body : (n : ℕ) (es : List ℤ) (s : Seen) → Ready t c (Body n es s) → InBody n es s
+  pub ready-body : (n : ℕ) (es : List ℤ) (s : Seen) → Arrived t c (Body n es s) → InBody n es s
   ready-body n es s h = in-body (h .before) n es s (h .state)
 
-  pub order-read : (z : ℤ) (c′ : Cursor) → Ready t c (Head Nothing) → scan orderForm Nothing c (drop (c .offset) t) ≡ Number z c′
-      → Ready t c′ (Body (natAbs z) [] Nothing)
+  pub order-read : (z : ℤ) (c′ : Cursor) → Arrived t c (Head Nothing) → scan orderForm Nothing c (drop (c .offset) t) ≡ Number z c′
+      → Arrived t c′ (Body (natAbs z) [] Nothing)
   order-read z c′ h e = number-found head-slot head-live head-open t h e
 
-  pub order-bad : (p : Place) → Ready t c (Head Nothing) → scan orderForm Nothing c (drop (c .offset) t) ≡ Bad p → NoSheet t (placeOf p)
+  pub order-bad : (p : Place) → Arrived t c (Head Nothing) → scan orderForm Nothing c (drop (c .offset) t) ≡ Bad p → NoSheet t (placeOf p)
   order-bad p h e = number-found head-slot head-live head-open t h e
 
-  module _ (n : ℕ) (es : List ℤ) (h : Ready t c (Body n es Nothing)) where
+  module _ (n : ℕ) (es : List ℤ) (h : Arrived t c (Body n es Nothing)) where
     pub entry-read : (z : ℤ) (c′ : Cursor) → length es < n * n → scan (entryForm n (length es)) Nothing c (drop (c .offset) t) ≡ Number z c′
-        → Ready t c′ (Body n (es ++ (z ∷ [])) Nothing)
+        → Arrived t c′ (Body n (es ++ (z ∷ [])) Nothing)
     entry-read z c′ k e = number-found (body-slot n es k) (body-live n es) (λ u s r. body-open u n es s k r) t h e
 
     pub entry-bad : (p : Place) → length es < n * n → scan (entryForm n (length es)) Nothing c (drop (c .offset) t) ≡ Bad p → NoSheet t (placeOf p)

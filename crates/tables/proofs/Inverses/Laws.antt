@@ -12,10 +12,10 @@ use Rattle.numbers.proofs.Testing.Tests.{both, all, all-at}
 use Rattle.numbers.proofs.Testing.RuleTests.{congruent, congruent-sound, congruent-complete}
 use Rattle.tables.specs.Tables.{Matrix, _≈⟨_⟩_, _·⟨_⟩_, CongM, HasInverseMod, HasWholeInverse}
 use Rattle.tables.proofs.Algebra.Matrix.{𝟘, congM-eq}
-use Rattle.tables.proofs.Algebra.MatrixSolver.{MExpr, Claimᴹ, matrix, modular, given_is_by_and_then_, 𝟘ᵉ, 𝟙, _·ᵉ_, _⊙ᵉ_, _≑_}
+use Rattle.tables.proofs.Algebra.MatrixSolver.{MExpr, Assertionᴹ, matrix, modular, given_is_by_and_then_, 𝟘ᵉ, 𝟙, _·ᵉ_, _⊙ᵉ_, _≑_}
 
 -- B = B·(A·C) = (B·A)·C = C
-abbrev meet : MExpr → MExpr → MExpr → Claimᴹ
+abbrev meet : MExpr → MExpr → MExpr → Assertionᴹ
 meet A B C = given B ·ᵉ A is 𝟙 by 𝟙 and C then given A ·ᵉ C is 𝟙 by (⊝ # 1) ⊙ᵉ B and 𝟙 then B ≑ C
 
 pub inverses-meet : (n : ℕ) (x : ℤ) (A B C : Matrix) → CongM n x (B ·⟨ n ⟩ A) δ → CongM n x (A ·⟨ n ⟩ C) δ → CongM n x B C

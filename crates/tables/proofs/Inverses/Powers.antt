@@ -4,7 +4,7 @@ use mathlib.Core.Path.{_≡_, sym, ap, subst, _∙_}
 use Prim.Native.Nat.{ℕ, zero, suc, _+_, _-_, _*_, _^_, _≤_}
 use native.Mathlib.Omega.{arith}
 use native.Mathlib.Nat.{two-pow-succ, pow-suc, mul-comm, pow-le-pow-left}
-use lib.IntN.{ℤ, pos, natAbs, negsuc, _*ℤ_, _-ℤ_}
+use lib.IntN.{pos, natAbs, negsuc, _*ℤ_, _-ℤ_}
 use lib.Pow.{pow-add}
 use lib.Signed.{shrZ}
 use Rattle.numbers.proofs.Algebra.RingSolver.{ring, #_, ⊝_, _⊖_, _⊗_, _≐_}
@@ -13,7 +13,7 @@ use Rattle.numbers.proofs.Counting.Search.{below-pow}
 use Rattle.numbers.proofs.Remainders.Congruence.{cong-sym, cong-near}
 use Rattle.numbers.proofs.Remainders.Division.{shr-exact}
 use Rattle.numbers.proofs.Remainders.Powers.{power-one}
-use Rattle.tables.specs.Tables.{Matrix, _⊞_, _⊟_, _⊙_, _·⟨_⟩_, Zero, HasInverseMod}
+use Rattle.tables.specs.Tables.{Matrix, _⊞_, _⊙_, _·⟨_⟩_, Zero, HasInverseMod}
 use Rattle.tables.proofs.Algebra.Matrix.{congM-eq}
 use Rattle.tables.proofs.Algebra.MatrixSolver.{matrix, modular, given_is_by_and_then_, 𝟘ᵉ, 𝟙, _⊞ᵉ_, _⊟ᵉ_, _·ᵉ_, _⊙ᵉ_, _≑_}
 use Rattle.tables.proofs.Inverses.TwoSided.{two-sided}

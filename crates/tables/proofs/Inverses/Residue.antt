@@ -1,4 +1,4 @@
--- What the verdict and the readings rest on: where A·S = F and A·C = F - x·R, with S and C together smaller than x, and A has a left inverse
+-- What the verdict rests on: where A·S = F and A·C = F - x·R, with S and C together smaller than x, and A has a left inverse
 -- modulo x, S is C and the residue R is 0. For A·(S - C) = x·R, so x divides S - C, which is smaller than x. A whole inverse is such an S, for
 -- F = I, and no bound need be known of it where C is enough smaller than x: it is at most (n·h)^(n-1).
 use mathlib.Core.Path.{ap}

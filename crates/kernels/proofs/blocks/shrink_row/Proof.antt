@@ -6,7 +6,7 @@ use Rattle.numbers.proofs.Machine.{rd, rd-ok, rd-got}
 use Rattle.tables.specs.Tables.{_·⟨_⟩_, block, entries}
 use Rattle.kernels.specs.Kernels.{shrunk}
 use Rattle.tables.proofs.Buffers.Places.{square-small, row-end}
-use Rattle.numbers.proofs.Remainders.Moduli.{exponent-most}
+use Rattle.numbers.proofs.Remainders.Moduli.{exponent-upto}
 use Rattle.kernels.proofs.Kernels.Rows.{row-rest}
 use Rattle.kernels.proofs.Kernels.Blocks.{at-zero, shrink-dot, shrink-room, shrink-kept}
 use Rattle.tables.proofs.Algebra.Matrix.{·-cong}
@@ -75,7 +75,7 @@ sub-requires c κs =
     simp (reads-it c, sums-it c) (shrink-room (r .0) (r .1 .0) (c .before .before .before .loop-test .taken) (r .1 .1))
 
 shr-requires : tie.Need-shr-requires Inv-loop μ-loop
-shr-requires c κs = omega (arith, exponent-most (c .before .before .before .before .before .before .pre .0 .upto))
+shr-requires c κs = omega (arith, exponent-upto (c .before .before .before .before .before .before .pre .0 .upto))
 
 add-v : tie.Need-add-v Inv-loop μ-loop
 add-v c = let m = c .before .before .before .before .before .before .before .pre in omega (arith, row-end (m .1 .0), m .0 .target, square-small (m .0 .order .upto))

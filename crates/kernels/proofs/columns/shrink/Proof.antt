@@ -4,7 +4,7 @@ use Rattle.numbers.proofs.Machine.{rd, rd-ok, rd-got}
 use Rattle.tables.specs.Tables.{_·⟨_⟩_, block, entries}
 use Rattle.tables.proofs.Buffers.Places.{square-small}
 use Rattle.kernels.specs.Kernels.{shrunk}
-use Rattle.numbers.proofs.Remainders.Moduli.{exponent-most}
+use Rattle.numbers.proofs.Remainders.Moduli.{exponent-upto}
 use Rattle.kernels.proofs.Kernels.Columns.{head, head-room, Column, column-none, column-more, column-put, shrink-dot, shrink-reads, shrink-sum, shrink-room}
 use native.Mathlib.Omega.{arith}
 use Prim.Native.Nat.{ℕ, _-_, _+_, _*_, _^_, _≤_, _<_}
@@ -67,7 +67,7 @@ sub-requires c κs =
     simp (reads-it c, sums-it c) (shrink-room (l .before .pre) (l .loop .inv) (c .before .before .before .loop-test .taken))
 
 shr-requires : tie.Need-shr-requires Inv-loop μ-loop
-shr-requires c κs = omega (arith, exponent-most (c .before .before .before .before .before .before .pre .upto))
+shr-requires c κs = omega (arith, exponent-upto (c .before .before .before .before .before .before .pre .upto))
 
 mul-v : tie.Need-mul-v Inv-loop μ-loop
 mul-v c = let r = place (c .before .before .before .before .before) in omega arith
