@@ -1,60 +1,38 @@
-// Runs every case that document 01 lists under 'Tried by hand', and says of each whether the library answers as the document does.
-mod cases;
-mod compare;
+// Runs the cases of its input, which '#' parts; prints those that the library answers otherwise, and how many it answers so. Its input has the cases of
+// document 01, 'Tried by hand'.
+mod answers;
+mod reading;
 
+use libc::STDIN_FILENO;
 use libc::STDOUT_FILENO;
 
-// How many cases ran, and how many came out as the document says.
-struct Tally {
-    ran: u64,
-    right: u64,
-}
-
-impl Tally {
-    // One more case: its line is printed, and it is counted. The sums wrap, which asks no proof; so many cases there are not.
-    fn case(self, name: &[u8], right: bool) -> Tally {
-        let ran = std::num::wrapping_add_u64(self.ran, 1);
-        if right {
-            print(b"ok ", name);
-            Tally {
-                ran,
-                right: std::num::wrapping_add_u64(self.right, 1),
-            }
-        } else {
-            print(b"FAILED ", name);
-            Tally {
-                ran,
-                right: self.right,
-            }
-        }
-    }
-}
-
-// Prints a line of two parts.
-fn print(outcome: &[u8], name: &[u8]) {
-    io::write_all(STDOUT_FILENO, outcome);
-    io::write_all(STDOUT_FILENO, name);
-    io::write_all(STDOUT_FILENO, b"\n");
-}
-
 fn main() {
-    let t = Tally { ran: 0, right: 0 };
-    let t = cases::needs(t);
-    let t = cases::lifts(t);
-    let t = cases::units(t);
-    let t = cases::three(t);
-    let t = cases::even_order_1(t);
-    let t = cases::inverted(t);
-    let t = cases::even_order_2(t);
-    let t = cases::thirds(t);
-    let t = cases::widest(t);
-    let t = cases::too_wide(t);
-    let t = cases::large(t);
-    let t = cases::sheets(t);
-    let t = cases::limits(t);
-    let t = cases::orders(t);
-    io::print_decimal(STDOUT_FILENO, t.right);
-    io::write_all(STDOUT_FILENO, b" of ");
-    io::print_decimal(STDOUT_FILENO, t.ran);
-    io::write_all(STDOUT_FILENO, b"\n");
+    let mut text = [0u8; 16384];
+    let read = io::read_full(STDIN_FILENO, &mut text);
+    run(&text[..read]);
+}
+
+fn run(text: &[u8]) {
+    let mut right: u64 = 0;
+    let mut from: usize = 0;
+    while from < text.len() {
+        let end = bytes::scan::find(text, from, text.len(), b'#');
+        right = std::num::wrapping_add_u64(right, case(text[from], &text[from..end]));
+        from = if end < text.len() { end + 1 } else { end };
+    }
+    total(right);
+}
+
+// Prints a case that comes out wrong; gives 1 for one that comes out right.
+fn case(kind: u8, line: &[u8]) -> u64 {
+    if answers::are(kind, line) {
+        return 1;
+    }
+    io::write_all(STDOUT_FILENO, line);
+    0
+}
+
+fn total(right: u64) {
+    io::print_decimal(STDOUT_FILENO, right);
+    io::write_all(STDOUT_FILENO, b" right\n");
 }
