@@ -4,7 +4,9 @@
 // have, and what a row, lift and a block ask besides (a row stands at s); the table; the figures that must be given, and what must then be seen of the
 // lent buffer. What is unsaid of that is as it was before.
 use super::reading::ALL;
-use super::reading::GIVEN;
+use super::reading::LIFTS;
+use super::reading::NEED;
+use super::reading::NUMBER;
 use super::reading::REST;
 use super::reading::TABLE;
 use super::reading::UNSAID;
@@ -67,7 +69,7 @@ fn seen<'a>(kind: u8, case: &[i64], left: &'a [i64]) -> &'a [i64] {
 }
 
 fn three(case: &[i64], o: verdict::Outcome) -> bool {
-    is(case, GIVEN + 1, o.number) && is(case, GIVEN + 2, o.exponent) && is(case, GIVEN + 3, o.lifts)
+    is(case, NUMBER, o.number) && is(case, NEED, o.exponent) && is(case, LIFTS, o.lifts)
 }
 
 fn is(case: &[i64], i: usize, v: u32) -> bool {

@@ -3,12 +3,18 @@
 // What a case leaves unsaid, and what stands in a lent buffer before the call.
 pub(crate) const UNSAID: i64 = 13;
 
-// So many places a list has, and where the table begins, what must be given, and what follows its three figures.
+// So many places a list has, and where the table begins, what must be given, its three figures, and the rest.
 pub(crate) const ALL: usize = 2304;
 
 pub(crate) const TABLE: usize = 8;
 
 pub(crate) const GIVEN: usize = 1100;
+
+pub(crate) const NUMBER: usize = 1101;
+
+pub(crate) const NEED: usize = 1102;
+
+pub(crate) const LIFTS: usize = 1103;
 
 pub(crate) const REST: usize = 1104;
 
@@ -48,11 +54,13 @@ impl Reading {
     }
 
     fn with(mut self, digit: u8) -> Reading {
+        let size = grow(self.size, digit);
+        let number = value(self.minus, size);
         let at = self.at;
-        self.size = grow(self.size, digit);
         if at < ALL {
-            self.list[at] = value(self.minus, self.size);
+            self.list[at] = number;
         }
+        self.size = size;
         self
     }
 }
