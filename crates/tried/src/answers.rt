@@ -3,6 +3,7 @@
 // with the letter of the call (v verdict, i inverse, r a row of it, l lift, b a block of it); the order, how many numbers the table and the lent buffer
 // have, and what a row, lift and a block ask besides (a row stands at s); the table; the figures that must be given, and what must then be seen of the
 // lent buffer. What is unsaid of that is as it was before.
+ghost use Prim.Native.Nat.{_≤_};
 use super::reading::ALL;
 use super::reading::LIFTS;
 use super::reading::NEED;
@@ -16,11 +17,12 @@ use super::reading::numbers;
 pub(crate) fn are(kind: u8, text: &[u8]) -> bool {
     let case = numbers(text);
     let mut out = [UNSAID; ALL];
-    judge(kind, &case, &mut out)
+    let start = 0;
+    let size = room(argument(&case, 3));
+    judge(kind, &case, &mut out[start..size])
 }
 
-fn judge(kind: u8, case: &[i64], out: &mut [i64]) -> bool {
-    let lent = lend(out, argument(case, 3));
+fn judge(kind: u8, case: &[i64], lent: &mut [i64]) -> bool {
     let o = call(kind, case, lent);
     agree(kind, case, o, lent)
 }
@@ -98,13 +100,10 @@ fn rest_is(case: &[i64], left: &[i64]) -> bool {
     at(case, i) == UNSAID
 }
 
-fn lend(out: &mut [i64], size: usize) -> &mut [i64] {
-    let start = 0;
-    if size < out.len() {
-        &mut out[start..size]
-    } else {
-        out
-    }
+fn room(size: usize) -> usize
+    ensures { λ r. ⌜ r ≤ 2304 ⌝ }
+{
+    if size < ALL { size } else { ALL }
 }
 
 // The table of a case, of so many numbers.
