@@ -1,4 +1,5 @@
 // Reads a sheet on standard input and prints its report.
+#![tactic(auto)]
 ghost use Rattle.certify.specs.Program.{Asked, Prints};
 
 use libc::{STDIN_FILENO, STDOUT_FILENO};

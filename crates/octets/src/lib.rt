@@ -1,4 +1,6 @@
 // Numbers as bytes, two's complement and least byte first: four bytes a number in, eight out.
+#![tactic(auto)]
+
 ghost use Rattle.std.specs.Prelude.{◌≡◌, ◌+◌, ◌*◌, ◌^◌, ◌≤◌, ◌<◌, length};
 ghost use Rattle.octets.specs.Bytes.{signed32, decode, bits64, encode};
 ghost use Rattle.octets.specs.Parts.{word_at, byte_of};

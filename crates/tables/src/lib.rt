@@ -1,4 +1,6 @@
 // Square tables of whole numbers: the view of a row, the checks of a lent table, a copy, and rows of residues (residues.rt).
+#![tactic(auto)]
+
 ghost use Rattle.std.specs.Prelude.{◌+◌, ◌≤◌, length};
 ghost use Rattle.numbers.specs.Says.{Tells};
 ghost use Rattle.tables.specs.Buffer.{Copied};

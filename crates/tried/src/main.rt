@@ -1,5 +1,6 @@
 // Runs the cases of its input, which '#' parts; prints those that the library answers otherwise, and how many it answers so. Its input has the cases of
 // document 01, 'Tried by hand'.
+#![tactic(auto)]
 mod answers;
 mod reading;
 

@@ -1,4 +1,5 @@
 // Verdict and inverse.
+#![tactic(auto)]
 ghost use Rattle.std.specs.Prelude.{◌≡◌, ◌*◌, ◌^◌, length, take};
 ghost use Rattle.tables.specs.Tables.{entries, block};
 ghost use Rattle.numbers.specs.Limits.{IsOrder};

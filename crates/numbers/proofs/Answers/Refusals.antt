@@ -117,6 +117,7 @@ learnt (j when P then rs) k t (inr p) =
 
 -- what applies in a rising list lies above its bound
 above : (m : ℕ) (rs : Refusals) {k : ℕ} → Rising m rs → Applies rs k → m < k
+above m done r a = elim a [ ]
 above m (i when P then rs) r (inl p) = omega arith
 above m (i when P then rs) r (inr p) = let h = above i rs r.1 p in omega arith
 

@@ -4,13 +4,13 @@ use Rattle.numbers.proofs.Machine.{product_room}
 use Rattle.numbers.proofs.fold.Statement.{statement}
 use Rattle.numbers.proofs.fold.Tie as tie
 
-mul-result : tie.Need-overflow-mul-result
+mul-result : tie.Need-overflow_mul-result
 mul-result c = omega (arith, product_room c.args.x c.args.y (omega arith) (omega arith))
 
-add-result : tie.Need-overflow-add-result
+add-result : tie.Need-overflow_add-result
 add-result c = omega (arith, product_room c.args.x c.args.y (omega arith) (omega arith))
 
-cast-result : tie.Need-overflow-cast-result
+cast-result : tie.Need-overflow_cast-result-4
 cast-result c = search rules
 
 returns : tie.Need-returns

@@ -23,19 +23,19 @@ module _ (v : ℤ) (h : nat_abs v ≤ 2 ^ 62) where
   left : v -ℤ q *ℤ pos 4294967296 ≡ pos (residue (2 ^ 32) v)
   left = ring 4 (λ v x q r. if v is x ⊗ q ⊕ r by # 1 then v ⊖ q ⊗ x ≐ r) tt v (pos (2 ^ 32)) q (pos (residue (2 ^ 32) v)) (floor (2 ^ 32) (omega arith) v)
 
-shr-requires : tie.Need-shr-requires
+shr-requires : tie.Need-shr-q-requires
 shr-requires c κs = search rules
 
-quotient : (c : tie.After-shr) → rd c.shr.result ≡ shr_z c.before.args.v (2 ^ 32)
-quotient c = rd_got c.shr.result c.shr.type-inv (simp (rd_is c.before.ranges.v) at c.shr.ensures)
+quotient : (c : tie.After-shr-q) → rd c.shr-q.result ≡ shr_z c.before.args.v (2 ^ 32)
+quotient c = rd_got c.shr-q.result c.shr-q.type_inv (simp (rd_is c.before.ranges.v) at c.shr-q.ensures)
 
 multiple : (c : tie.After-mul) → rd c.mul.result ≡ shr_z c.before.before.args.v (2 ^ 32) *ℤ pos 4294967296
-multiple c = rd_got c.mul.result c.mul.type-inv (simp (quotient c.before) at c.mul.ensures)
+multiple c = rd_got c.mul.result c.mul.type_inv (simp (quotient c.before) at c.mul.ensures)
 
 rest : (c : tie.After-sub) → rd c.sub.result ≡ pos (residue (2 ^ 32) c.before.before.before.args.v)
 rest c =
     let s = c.before.before.before in
-    rd_got c.sub.result c.sub.type-inv ((simp (multiple c.before, rd_is s.ranges.v) at c.sub.ensures) ∙ left s.args.v s.requires)
+    rd_got c.sub.result c.sub.type_inv ((simp (multiple c.before, rd_is s.ranges.v) at c.sub.ensures) ∙ left s.args.v s.requires)
 
 mul-requires : tie.Need-mul-requires
 mul-requires c κs = simp (quotient c) (size c.before.args.v c.before.requires)
@@ -45,7 +45,7 @@ sub-requires c κs =
     let s = c.before.before in
     simp (multiple c, rd_is s.ranges.v, left s.args.v s.requires) (omega (arith, residue_below (2 ^ 32) (omega arith) s.args.v))
 
-cast-result : tie.Need-overflow-cast-result
+cast-result : tie.Need-overflow_cast-result
 cast-result c = let s = c.before.before.before in simp (rest c) (tt, omega (arith, residue_below (2 ^ 32) (omega arith) s.args.v))
 
 returns : tie.Need-returns
