@@ -11,51 +11,51 @@ use Rattle.octets.proofs.Filling.{Filled, filled_none, filled_more, filled_all}
 use Rattle.octets.proofs.write.Statement.{statement}
 use Rattle.octets.proofs.write.Tie as tie
 
-abbrev invariant-loop : tie.invariant-loop
+abbrev invariant-loop : tie.invariant-loop-p
 invariant-loop list out₀ p₀ out p = (p ≤ length out₀) × ((length out ≡ length out₀) × Filled (encode list) p out)
 
-abbrev decreases-loop : tie.decreases-loop
+abbrev decreases-loop : tie.decreases-loop-p
 decreases-loop list out₀ p₀ out p = length out₀ - p
 
-loop-holds : tie.Need-loop-init invariant-loop decreases-loop
+loop-holds : tie.Need-loop-p-init invariant-loop decreases-loop
 loop-holds c = (omega arith, (omega arith, filled_none))
 
-mul-byte : tie.Need-overflow-mul-byte invariant-loop decreases-loop
+mul-byte : tie.Need-offset_bounds-list-p invariant-loop decreases-loop
 mul-byte c = omega arith
 
-shared-slice-copy-out-byte : tie.Need-shared-slice-copy-out-byte invariant-loop decreases-loop
+shared-slice-copy-out-byte : tie.Need-bounds-list-p invariant-loop decreases-loop
 shared-slice-copy-out-byte c = omega arith
 
-cast-byte : tie.Need-overflow-cast-byte invariant-loop decreases-loop
+cast-byte : tie.Need-overflow_cast-p invariant-loop decreases-loop
 cast-byte c = omega arith
 
-byte-requires : tie.Need-byte-requires invariant-loop decreases-loop
+byte-requires : tie.Need-byte-v-requires invariant-loop decreases-loop
 byte-requires c κs = omega arith
 
-slice-write-out : tie.Need-slice-write-out invariant-loop decreases-loop
+slice-write-out : tie.Need-bounds-out-p invariant-loop decreases-loop
 slice-write-out c = omega arith
 
-add-p : tie.Need-overflow-add-p invariant-loop decreases-loop
+add-p : tie.Need-overflow_add-p invariant-loop decreases-loop
 add-p c = omega arith
 
-loop-less : tie.Need-loop-smaller invariant-loop decreases-loop
+loop-less : tie.Need-loop-p-smaller invariant-loop decreases-loop
 loop-less c = omega arith
 
-loop-again : tie.Need-loop-preserved invariant-loop decreases-loop
+loop-again : tie.Need-loop-p-preserved invariant-loop decreases-loop
 loop-again c =
     let l = c.before.before.before in
     let s = l.before.before in
-    let e : c.byte.result ≡ byte_of (get_or s.args.list.now (l.loop.p / 8) (pos 0)) (l.loop.p % 8) =
-    simp (rd_ok (get_or s.args.list.now (l.loop.p / 8) (pos 0)) c.before.byte-arg.given) at c.byte.ensures in
-    (omega arith, (length-set l.loop.out l.loop.p _ ∙ l.loop.invariant.1.0, filled_more _ 0 (omega arith) (omega (arith, length_encode s.args.list.now)) (e ∙ sym (encode_at s.args.list.now l.loop.p (omega arith))) l.loop.invariant.1.1))
+    let e : c.byte-v.result ≡ byte_of (get_or s.args.list.now (l.loop-p.p / 8) (pos 0)) (l.loop-p.p % 8) =
+    simp (rd_ok (get_or s.args.list.now (l.loop-p.p / 8) (pos 0)) c.before.byte-arg-1.given) at c.byte-v.ensures in
+    (omega arith, (length-set l.loop-p.out l.loop-p.p _ ∙ l.loop-p.invariant.1.0, filled_more _ 0 (omega arith) (omega (arith, length_encode s.args.list.now)) (e ∙ sym (encode_at s.args.list.now l.loop-p.p (omega arith))) l.loop-p.invariant.1.1))
 
-same_length : tie.Need-same-length invariant-loop decreases-loop
+same_length : tie.Need-shape_of-out invariant-loop decreases-loop
 same_length c = omega arith
 
 returns : tie.Need-returns invariant-loop decreases-loop
 returns c =
     let l = c.before in
-    filled_all (omega arith) (omega (arith, length_encode l.before.before.args.list.now)) l.loop.invariant.1.1
+    filled_all (omega arith) (omega (arith, length_encode l.before.before.args.list.now)) l.loop-p.invariant.1.1
 
 pub write_spec : {M : Type 1} → statement M
 write_spec =

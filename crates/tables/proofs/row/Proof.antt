@@ -4,23 +4,23 @@ use Rattle.tables.proofs.Checking.Views.{row_fits, view_there, view_none}
 use Rattle.tables.proofs.row.Statement.{statement}
 use Rattle.tables.proofs.row.Tie as tie
 
-has-row-requires : tie.Need-has-row-requires
+has-row-requires : tie.Need-has_row-requires
 has-row-requires c κs = search rules
 
-mul-part : tie.Need-overflow-mul-part
-mul-part c = omega (arith, row_fits (c.before.has-row.ensures.yes c.if1.true))
+mul-part : tie.Need-overflow_mul-i
+mul-part c = omega (arith, row_fits (c.before.has_row.ensures.yes c.if-has_row.true))
 
 part-requires : tie.Need-part-requires
-part-requires c κs = omega (arith, row_fits (c.before.has-row.ensures.yes c.if1.true))
+part-requires c κs = omega (arith, row_fits (c.before.has_row.ensures.yes c.if-has_row.true))
 
-part-requires-2 : tie.Need-part-requires-2
+part-requires-2 : tie.Need-part-requires-else-has_row
 part-requires-2 c κs = search rules
 
-returns : tie.Need-returns
-returns c = view_there (c.before.before.has-row.ensures.yes c.before.if1.true) c.part.ensures
+returns : tie.Need-returns-then-has_row
+returns c = view_there (c.before.before.has_row.ensures.yes c.before.if-has_row.true) c.part.ensures
 
-returns-2 : tie.Need-returns-2
-returns-2 c = view_none (c.before.before.has-row.ensures.no c.before.if1.false) c.part2.ensures
+returns-2 : tie.Need-returns-else-has_row
+returns-2 c = view_none (c.before.before.has_row.ensures.no c.before.if-has_row.false) c.part-else-has_row.ensures
 
 pub row_spec : {M : Type 1} → statement M
 row_spec =

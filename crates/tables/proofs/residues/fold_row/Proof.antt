@@ -8,31 +8,31 @@ use mathlib.Core.Path.{◌≡◌, ap, ◌∙◌}
 use Rattle.tables.proofs.residues.fold_row.Statement.{statement}
 use Rattle.tables.proofs.residues.fold_row.Tie as tie
 
-abbrev invariant-loop : tie.invariant-loop
+abbrev invariant-loop : tie.invariant-loop-j
 invariant-loop n x y k z₀ o j₀ z j = (j ≤ n) × Wrote 0 (λ (j : ℕ). (get_or z₀ (o + j) 0 + x * get_or y (k + j) 0) % 2 ^ 32) o j z₀ z
 
-abbrev decreases-loop : tie.decreases-loop
+abbrev decreases-loop : tie.decreases-loop-j
 decreases-loop n x y k z₀ o j₀ z j = n - j
 
-loop-holds : tie.Need-loop-init invariant-loop decreases-loop
+loop-holds : tie.Need-loop-j-init invariant-loop decreases-loop
 loop-holds c = (omega arith, wrote_none _ _ _)
 
-fold-requires : tie.Need-fold-requires invariant-loop decreases-loop
+fold-requires : tie.Need-fold-v-requires invariant-loop decreases-loop
 fold-requires c κs = search rules
 
-loop-again : tie.Need-loop-preserved invariant-loop decreases-loop
+loop-again : tie.Need-loop-j-preserved invariant-loop decreases-loop
 loop-again c =
     let l = c.before.before.before.before in
     let g = l.before.before.before.args in
-    (omega arith, wrote_more _ _ _ _ _ _ (omega arith) (c.fold.ensures ∙ ap (λ (v : ℕ). (v + g.x * get_or g.y.now (g.k + l.loop.j) 0) % 2 ^ 32) (l.loop.invariant.1.after _ (omega arith))) l.loop.invariant.1)
+    (omega arith, wrote_more _ _ _ _ _ _ (omega arith) (c.fold-v.ensures ∙ ap (λ (v : ℕ). (v + g.x * get_or g.y.now (g.k + l.loop-j.j) 0) % 2 ^ 32) (l.loop-j.invariant.1.after _ (omega arith))) l.loop-j.invariant.1)
 
-same_length : tie.Need-same-length invariant-loop decreases-loop
-same_length c = c.before.loop.invariant.1.long
+same_length : tie.Need-shape_of-z invariant-loop decreases-loop
+same_length c = c.before.loop-j.invariant.1.long
 
 returns : tie.Need-returns invariant-loop decreases-loop
 returns c =
-    let e : c.before.loop.j ≡ c.before.before.before.before.args.n = omega arith in
-    rw e at c.before.loop.invariant.1
+    let e : c.before.loop-j.j ≡ c.before.before.before.before.args.n = omega arith in
+    rw e at c.before.loop-j.invariant.1
 
 pub fold_row_spec : {M : Type 1} → statement M
 fold_row_spec =
