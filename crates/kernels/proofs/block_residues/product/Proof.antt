@@ -7,31 +7,31 @@ use Prim.Native.Nat.{◌-◌, ◌^◌}
 use Rattle.kernels.proofs.block_residues.product.Statement.{statement}
 use Rattle.kernels.proofs.block_residues.product.Tie as tie
 
-abbrev invariant-loop : tie.invariant-loop
+abbrev invariant-loop : tie.invariant-loop-i
 invariant-loop n y buf₀ p o i₀ buf i = Rows n (residue_product (2 ^ 32) n (block n buf₀ p) y) o i buf₀ buf
 
-abbrev decreases-loop : tie.decreases-loop
+abbrev decreases-loop : tie.decreases-loop-i
 decreases-loop n y buf₀ p o i₀ buf i = n - i
 
-loop-holds : tie.Need-loop-init invariant-loop decreases-loop
+loop-holds : tie.Need-loop-i-init invariant-loop decreases-loop
 loop-holds c = rows_none _
 
-product-row-requires : tie.Need-product-row-requires invariant-loop decreases-loop
+product-row-requires : tie.Need-product_row-requires invariant-loop decreases-loop
 product-row-requires c κs =
     let l = c.before.before in
-    (products_kept l.before.before.requires (rows_rest l.loop.invariant), c.before.loop-test.true)
+    (products_kept l.before.before.requires (rows_rest l.loop-i.invariant), c.before.loop-i-test.true)
 
-loop-again : tie.Need-loop-preserved invariant-loop decreases-loop
+loop-again : tie.Need-loop-i-preserved invariant-loop decreases-loop
 loop-again c =
     let l = c.before.before.before.before in
-    let h = c.before.before.before.loop-test.true in
-    rows_more h l.loop.invariant c.before.product-row.ensures (λ j k. products_same (2 ^ 32) l.before.before.requires (rows_rest l.loop.invariant) _ j h k)
+    let h = c.before.before.before.loop-i-test.true in
+    rows_more h l.loop-i.invariant c.before.product_row.ensures (λ j k. products_same (2 ^ 32) l.before.before.requires (rows_rest l.loop-i.invariant) _ j h k)
 
-same_length : tie.Need-same-length invariant-loop decreases-loop
-same_length c = c.before.loop.invariant.wrote.long
+same_length : tie.Need-shape_of-buf invariant-loop decreases-loop
+same_length c = c.before.loop-i.invariant.wrote.long
 
 returns : tie.Need-returns invariant-loop decreases-loop
-returns c = rows_put (omega arith) c.before.loop.invariant
+returns c = rows_put (omega arith) c.before.loop-i.invariant
 
 pub product_spec : {M : Type 1} → statement M
 product_spec =

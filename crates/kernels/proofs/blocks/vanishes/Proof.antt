@@ -11,40 +11,40 @@ use Rattle.kernels.proofs.Kernels.Blocks.{zero_of, zero_at}
 use Rattle.kernels.proofs.blocks.vanishes.Statement.{statement}
 use Rattle.kernels.proofs.blocks.vanishes.Tie as tie
 
-abbrev invariant-loop : tie.invariant-loop
+abbrev invariant-loop : tie.invariant-loop-t
 invariant-loop n buf o m oa t₀ t = (t ≤ n * n) × ((k : ℕ) → k < t → get_or buf (o * (n * n) + k) (pos 0) ≡ pos 0)
 
-abbrev decreases-loop : tie.decreases-loop
+abbrev decreases-loop : tie.decreases-loop-t
 decreases-loop n buf o m oa t₀ t = n * n - t
 
-mul-m : tie.Need-overflow-mul-m invariant-loop decreases-loop
+mul-m : tie.Need-overflow_mul-m invariant-loop decreases-loop
 mul-m c = omega (arith, square_small c.requires.0.upto)
 
 none : (k : ℕ) → k < 0 → ⊥
 none k h = omega arith
 
-loop-holds : tie.Need-loop-init invariant-loop decreases-loop
+loop-holds : tie.Need-loop-t-init invariant-loop decreases-loop
 loop-holds c = (omega arith, λ k h. absurd (none k h))
 
-loop-again : tie.Need-loop-preserved invariant-loop decreases-loop
+loop-again : tie.Need-loop-t-preserved invariant-loop decreases-loop
 loop-again c =
     let l = c.before.before.before in
     let g = l.before.args in (
       omega arith,
-      below_more (λ (k : ℕ). get_or g.buf.now (g.o * (g.n * g.n) + k) (pos 0) ≡ pos 0) l.loop.t l.loop.invariant.1 (bits_zero _ c.before.if12.given c.if1.false),
+      below_more (λ (k : ℕ). get_or g.buf.now (g.o * (g.n * g.n) + k) (pos 0) ≡ pos 0) l.loop-t.t l.loop-t.invariant.1 (bits_zero _ c.before.t11-1.given c.if-buf-oa-ne0.false),
     )
 
-returns : tie.Need-returns invariant-loop decreases-loop
+returns : tie.Need-returns-then-buf-oa-ne0 invariant-loop decreases-loop
 returns c =
     let l = c.before.before.before in
     let s = l.before in
-    say_no (λ z. c.if1.true (zero_bits _ (zero_at s.args.buf.now s.args.o l.loop.t s.requires.0 c.before.before.loop-test.true z)))
+    say_no (λ z. c.if-buf-oa-ne0.true (zero_bits _ (zero_at s.args.buf.now s.args.o l.loop-t.t s.requires.0 c.before.before.loop-t-test.true z)))
 
-returns-2 : tie.Need-returns-2 invariant-loop decreases-loop
+returns-2 : tie.Need-returns invariant-loop decreases-loop
 returns-2 c =
     let s = c.before.before in
-    let e : c.before.loop.t ≡ s.args.n * s.args.n = omega arith in
-    say_yes (zero_of s.args.buf.now s.args.o (rw e at c.before.loop.invariant.1))
+    let e : c.before.loop-t.t ≡ s.args.n * s.args.n = omega arith in
+    say_yes (zero_of s.args.buf.now s.args.o (rw e at c.before.loop-t.invariant.1))
 
 pub vanishes_spec : {M : Type 1} → statement M
 vanishes_spec =
