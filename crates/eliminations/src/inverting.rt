@@ -37,8 +37,8 @@ fn solve(n: usize, a: &[i64], c: &mut [u32], p: &mut [u32])
 
 // Column r of p becomes that of the identity.
 fn settle(n: usize, r: usize, c: &mut [u32], p: &mut [u32])
-    requires r_lt_n { (r < n) × Spans n c.old p.old }
-    requires not_none { ¬ None 2 n r (residues n p.old ᵀ) }
+    requires spans { (r < n) × Spans n c.old p.old }
+    requires odd_below { ¬ None 2 n r (residues n p.old ᵀ) }
     ensures { Settled (2 ^ 32) n r c.old p.old c.new p.new }
 {
     lead(n, r, c, p);
@@ -48,8 +48,8 @@ fn settle(n: usize, r: usize, c: &mut [u32], p: &mut [u32])
 
 // Where the entry of p at row r and column r is even, row r gains the first row below it whose entry in that column is odd.
 fn lead(n: usize, r: usize, c: &mut [u32], p: &mut [u32])
-    requires r_lt_n { (r < n) × Spans n c.old p.old }
-    requires not_none { ¬ None 2 n r (residues n p.old ᵀ) }
+    requires spans { (r < n) × Spans n c.old p.old }
+    requires odd_below { ¬ None 2 n r (residues n p.old ᵀ) }
     ensures { Prepared (Some 2) (2 ^ 32) n r c.old p.old c.new p.new }
 {
     let s = pivot(n, r, p);
@@ -61,8 +61,8 @@ fn lead(n: usize, r: usize, c: &mut [u32], p: &mut [u32])
 
 // The first row from r on whose entry in column r is odd: there is one.
 fn pivot(n: usize, r: usize, p: &[u32]) -> usize
-    requires n_bound { (n ≤ 32) × ((r < n) × (n * n ≤ length p.now)) }
-    requires not_none { ¬ None 2 n r (residues n p.now ᵀ) }
+    requires room { (n ≤ 32) × ((r < n) × (n * n ≤ length p.now)) }
+    requires odd_below { ¬ None 2 n r (residues n p.now ᵀ) }
     ensures { (result < n) × Pivot 2 n r (residues n p.now ᵀ) result }
 {
     let mut s = r;
@@ -84,8 +84,8 @@ fn gain(n: usize, d: usize, s: usize, t: &mut [u32])
 
 // Row r, whose entry in column r of p is odd, is multiplied so that this entry is 1.
 fn scale(n: usize, r: usize, c: &mut [u32], p: &mut [u32])
-    requires r_lt_n { (r < n) × Spans n c.old p.old }
-    requires some { Some 2 (residues n p.old r r) }
+    requires spans { (r < n) × Spans n c.old p.old }
+    requires odd { Some 2 (residues n p.old r r) }
     ensures { Prepared (One (2 ^ 32)) (2 ^ 32) n r c.old p.old c.new p.new }
 {
     let u = unit(p[r * n + r]);
@@ -95,7 +95,7 @@ fn scale(n: usize, r: usize, c: &mut [u32], p: &mut [u32])
 
 // Row r, whose entry in column r of p is 1, clears that column in every other row.
 fn clear(n: usize, r: usize, c: &mut [u32], p: &mut [u32])
-    requires r_lt_n { (r < n) × Spans n c.old p.old }
+    requires spans { (r < n) × Spans n c.old p.old }
     requires one { One (2 ^ 32) (residues n p.old r r) }
     ensures { Settled (2 ^ 32) n r c.old p.old c.new p.new }
 {

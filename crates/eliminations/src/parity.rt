@@ -57,8 +57,8 @@ fn pivot(n: usize, r: usize, p: &[u32; 32]) -> usize
 
 // Word r, which has bit r, joins every other word that has bit r.
 fn clear(n: usize, r: usize, p: &mut [u32; 32])
-    requires r_lt_n { (r < n) × Sized n p.old }
-    requires cong { Cong (pos 2) (bits p.old r r) (pos 1) }
+    requires sized { (r < n) × Sized n p.old }
+    requires one { Cong (pos 2) (bits p.old r r) (pos 1) }
     ensures { (Sized n p.new) × Settles n r (bits p.old) (bits p.new) }
 {
     let mut m: usize = 0;

@@ -16,7 +16,7 @@ fold-requires-2 c κs = search rules
 returns : tie.Need-returns
 returns c =
     let s = c.before.before.before.args in
-    better_is (omega arith) s.g s.h _ _ c.before.before.negative.ensures c.before.fold.ensures c.fold2.ensures
+    better_is (omega arith) s.g s.h _ _ c.before.before.negative.ensures c.before.fold.ensures c.fold-2.ensures
 
 pub better_spec : {M : Type 1} → statement M
 better_spec = tie.close (tie.spec negative-requires fold-requires fold-requires-2 returns)

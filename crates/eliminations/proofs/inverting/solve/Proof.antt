@@ -15,23 +15,23 @@ use mathlib.Core.Path.{◌≡◌, refl, ◌∙◌}
 use Rattle.eliminations.proofs.inverting.solve.Statement.{statement}
 use Rattle.eliminations.proofs.inverting.solve.Tie as tie
 
-abbrev invariant-loop : tie.invariant-loop
+abbrev invariant-loop : tie.invariant-loop-r
 invariant-loop n a c₀ p₀ r₀ c p r =
     (r ≤ n) × ((length c ≡ length c₀) × ((length p ≡ length p₀) × (Spans n c p × Going n (2 ^ 32) r (entries n a ᵀ) (residues n c ᵀ) (residues n p ᵀ))))
 
-abbrev decreases-loop : tie.decreases-loop
+abbrev decreases-loop : tie.decreases-loop-r
 decreases-loop n a c₀ p₀ r₀ c p r = n - r
 
 ones-requires : tie.Need-ones-requires invariant-loop decreases-loop
 ones-requires c κs = let s = c.before.before.before.requires in (s.1.0.order, (s.1.0.long_c, s.1.1))
 
-mul-take : tie.Need-overflow-mul-take invariant-loop decreases-loop
+mul-take : tie.Need-overflow_mul-n invariant-loop decreases-loop
 mul-take c = omega (arith, square_small c.before.before.before.before.before.before.requires.1.0.order)
 
 take-requires : tie.Need-take-requires invariant-loop decreases-loop
 take-requires c κs = let s = c.before.before.before.before.before.before.before.requires in load_asks s.0.0 s.1.0.long_p
 
-loop-holds : tie.Need-loop-init invariant-loop decreases-loop
+loop-holds : tie.Need-loop-r-init invariant-loop decreases-loop
 loop-holds c =
     let s = c.before.before.before.before.before.before.before.before.before.before in
     let z = s.requires.1.0 in
@@ -53,28 +53,28 @@ loop-holds c =
 settle-requires : tie.Need-settle-requires invariant-loop decreases-loop
 settle-requires c κs =
     let s = c.before.before.before.before.before.before.before.before.before.before.before.before.before.before in
-    let q = c.before.before.before.loop.invariant.1.1.1 in
+    let q = c.before.before.before.loop-r.invariant.1.1.1 in
     let n = s.args.n in
     let A = entries n s.args.a.now in
     ((omega arith, q.0), λ none. stuck 2 (record { quot = pos (2 ^ 31); eqn = refl }) (omega arith) (omega arith) q.1 none (has_turned 2 n A s.requires.0.1))
 
-loop-again : tie.Need-loop-preserved invariant-loop decreases-loop
+loop-again : tie.Need-loop-r-preserved invariant-loop decreases-loop
 loop-again c =
-    let v = c.before.before.before.before.before.before.before.before.loop.invariant.1 in
+    let v = c.before.before.before.before.before.before.before.before.loop-r.invariant.1 in
     let e = c.before.before.before.before.settle.ensures in
-    (omega arith, (omega (arith, v.0, c.before.before.before.c2.given), (omega (arith, v.1.0, c.before.p2.given), (e.spans, e.advances.on _ v.1.1.1))))
+    (omega arith, (omega (arith, v.0, c.before.before.before.c-in-loop-r-1.given), (omega (arith, v.1.0, c.before.p-in-loop-r-1.given), (e.spans, e.advances.on _ v.1.1.1))))
 
-same_length : tie.Need-same-length invariant-loop decreases-loop
-same_length c = c.before.loop.invariant.1.0 ∙ c.before.before.before.before.before.before.before.before.ones.ensures.0
+same_length : tie.Need-shape_of-c invariant-loop decreases-loop
+same_length c = c.before.loop-r.invariant.1.0 ∙ c.before.before.before.before.before.before.before.before.ones.ensures.0
 
-same-length-2 : tie.Need-same-length-2 invariant-loop decreases-loop
-same-length-2 c = c.before.loop.invariant.1.1.0 ∙ c.before.before.before.before.take.ensures.long
+same-length-2 : tie.Need-shape_of-p invariant-loop decreases-loop
+same-length-2 c = c.before.loop-r.invariant.1.1.0 ∙ c.before.before.before.before.take.ensures.long
 
 returns : tie.Need-returns invariant-loop decreases-loop
 returns c =
     let s = c.before.before.before.before.before.before.before.before.before.before.before.before in
     let n = s.args.n in
-    let l = c.before.loop in
+    let l = c.before.loop-r in
     (l.invariant.1.0 ∙ c.before.before.before.before.before.before.before.before.ones.ensures.0, inverse_turned (2 ^ 32) n (entries n s.args.a.now ᵀ) (residues n l.c ᵀ) (found (omega arith) l.invariant.1.1.1.1))
 
 pub solve_spec : {M : Type 1} → statement M

@@ -4,7 +4,7 @@ use Rattle.eliminations.proofs.Reduction.Bits.{odd_test, half_fits}
 use Rattle.eliminations.proofs.parity.odd.Statement.{statement}
 use Rattle.eliminations.proofs.parity.odd.Tie as tie
 
-rem-result : tie.Need-nonzero-rem-result
+rem-result : tie.Need-nonzero_rem-result
 rem-result c = (omega arith, rw (rd_is c.ranges.x) (half_fits c.args.x c.ranges.x))
 
 returns : tie.Need-returns

@@ -1,0 +1,12 @@
+use Rattle.eliminations.proofs.Reduction.Rows.{lead_here, lead_gain}
+use borrow.Author.Rules.{rules}
+use mathlib.Core.Path.{refl}
+use Prim.Native.Nat.{◌^◌}
+use lib.IntN.{pos}
+use Rattle.eliminations.proofs.inverting.lead.Goals as goal
+
+pub returns-then-s-r : goal.returns-then-s-r
+returns-then-s-r c =
+    let s = c.requires.spans in
+    let v = c.pivot-s.ensures in
+    lead_gain s.1 v.1 s.0 v.0 (record { quot = pos (2 ^ 31); eqn = refl }) c.if-s-r.true c.gain.ensures c.gain-then-s-r.ensures

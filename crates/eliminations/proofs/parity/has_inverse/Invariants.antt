@@ -1,0 +1,19 @@
+use mathlib.Core.Path.{refl}
+use Prim.Native.Nat.{◌-◌, ◌≤◌}
+use native.Mathlib.Omega.{arith}
+use borrow.Author.Tests.{not-true, not-false}
+use lib.IntN.{pos}
+use Rattle.numbers.proofs.Answers.Says.{say_yes, say_no}
+use Rattle.numbers.proofs.Algebra.Sum.{δ}
+use Rattle.tables.specs.Tables.{entries}
+use Rattle.eliminations.specs.Elimination.{Reaches}
+use Rattle.eliminations.specs.Parity.{bits, Sized}
+use Rattle.tables.proofs.Algebra.Matrix.{cong_m_refl}
+use Rattle.eliminations.proofs.Reduction.Stages.{going_first, found, stuck}
+use Rattle.eliminations.proofs.parity.has_inverse.Given as goal
+
+abbrev pub invariant-loop-r : goal.invariant-loop-r
+invariant-loop-r l = (l.r ≤ l.n) × (Sized l.n l.p × Reaches l.n 2 l.r (entries l.n l.a) (bits l.p))
+
+abbrev pub decreases-loop-r : goal.decreases-loop-r
+decreases-loop-r l = l.n - l.r
