@@ -15,7 +15,7 @@ shrink-requires c κs =
     let i = b.before.before.before in
     base_3 i.before.before.requires i.identity.ensures b.balance.ensures
 
-same_length : tie.Need-same-length
+same_length : tie.Need-shape_of-buf
 same_length c = search rules
 
 returns : tie.Need-returns

@@ -9,7 +9,7 @@ remain-requires c κs = digit_1 c.before.requires
 shrink-requires : tie.Need-shrink-requires
 shrink-requires c κs = let p = c.before.before in digit_2 p.before.before.requires p.remain.ensures
 
-same_length : tie.Need-same-length
+same_length : tie.Need-shape_of-buf
 same_length c = search rules
 
 returns : tie.Need-returns

@@ -9,7 +9,7 @@ product-requires c κs = step_1 c.before.requires
 digit-requires : tie.Need-digit-requires
 digit-requires c κs = let p = c.before.before in step_2 p.before.before.requires p.product.ensures
 
-same_length : tie.Need-same-length
+same_length : tie.Need-shape_of-buf
 same_length c = search rules
 
 returns : tie.Need-returns

@@ -1,7 +1,6 @@
 use Rattle.verdict.proofs.Width.{first_summed, digit_asks, two_wide, high_wide, extend_asks, summed}
 use Rattle.verdict.proofs.Buffer.{in_buffer, to_base}
 use Rattle.numbers.proofs.Answers.Says.{say_yes, say_no}
-use borrow.Author.Tests.{not-true, not-false}
 use native.Mathlib.Omega.{arith}
 use mathlib.Core.Path.{◌≡◌, ◌∙◌}
 use Prim.Native.Nat.{ℕ, ◌≤◌}
@@ -65,7 +64,7 @@ same-length-2 c = search rules
 returns-2 : tie.Need-returns-2
 returns-2 c =
     let d = c.before.before.before.before in
-    say_no (two_wide (from d).requires.0.setting (based d).base.ensures.start d.digit.ensures.step (from d).requires.1.0 (c.before.vanishes2.ensures.no (not-true _ c.if2.true)))
+    say_no (two_wide (from d).requires.0.setting (based d).base.ensures.start d.digit.ensures.step (from d).requires.1.0 (c.before.vanishes2.ensures.no c.if2.true))
 
 within-requires : tie.Need-within-requires
 within-requires c κs = stands c.before.before.before.before.before 2 (omega arith)
@@ -77,12 +76,12 @@ returns-3 : tie.Need-returns-3
 returns-3 c =
     let v = c.before.before.before in
     let d = v.before.before.before.before in
-    say_no (high_wide (from d).requires.0.setting (based d).base.ensures.start d.digit.ensures.step (v.before.vanishes2.ensures.yes (not-false _ v.if2.false)) (c.before.within.ensures.no (not-true _ c.if3.true)))
+    say_no (high_wide (from d).requires.0.setting (based d).base.ensures.start d.digit.ensures.step (v.before.vanishes2.ensures.yes v.if2.false) (c.before.within.ensures.no c.if3.true))
 
 extend-requires : tie.Need-extend-requires
 extend-requires c κs =
     let d = c.before.before.before.before.before.before.before.before in
-    extend_asks (from d).requires.0.setting (based d).base.ensures.start d.digit.ensures (long d) (c.before.before.within.ensures.yes (not-false _ c.before.if3.false))
+    extend_asks (from d).requires.0.setting (based d).base.ensures.start d.digit.ensures (long d) (c.before.before.within.ensures.yes c.before.if3.false)
 
 same-length-4 : tie.Need-same-length-4
 same-length-4 c = search rules
@@ -91,7 +90,7 @@ returns-4 : tie.Need-returns-4
 returns-4 c =
     let v = c.before.before.before.before.before.before in
     let d = v.before.before.before.before in
-    say_yes (summed (from d).requires.0.setting (based d).base.ensures.start d.digit.ensures (v.before.vanishes2.ensures.yes (not-false _ v.if2.false)) c.before.extend.ensures)
+    say_yes (summed (from d).requires.0.setting (based d).base.ensures.start d.digit.ensures (v.before.vanishes2.ensures.yes v.if2.false) c.before.extend.ensures)
 
 pub digits_spec : {M : Type 1} → statement M
 digits_spec =

@@ -7,7 +7,6 @@ use lib.ListN.{length}
 use Rattle.numbers.specs.Limits.{IsOrder}
 use Rattle.tables.specs.Buffer.{Has}
 use Rattle.tables.specs.Tables.{entries, HasInverseMod}
-use borrow.Author.Tests.{not-true, not-false}
 use native.Mathlib.Numerals.{add-one}
 use native.Mathlib.Omega.{arith}
 use Prim.Native.Nat.{◌+◌, ◌-◌, ◌^◌, ◌≤◌}
@@ -25,12 +24,12 @@ has-inverse-requires : tie.Need-has-inverse-requires invariant-loop decreases-lo
 has-inverse-requires c κs = (c.requires.0.lawful.order, c.requires.0.lawful.size)
 
 returns : tie.Need-returns invariant-loop decreases-loop
-returns c = c.before.has-inverse.ensures.no (not-true _ c.if1.true)
+returns c = c.before.has-inverse.ensures.no c.if1.true
 
 start-requires : tie.Need-start-requires invariant-loop decreases-loop
 start-requires c κs =
     let p = c.before.before.before.requires in
-    to_start p.0 p.1.1 (c.before.before.has-inverse.ensures.yes (not-false _ c.before.if1.false))
+    to_start p.0 p.1.1 (c.before.before.has-inverse.ensures.yes c.before.if1.false)
 
 fails-requires : tie.Need-fails-requires invariant-loop decreases-loop
 fails-requires c κs =
@@ -44,7 +43,7 @@ same_length c = c.before.before.fails.ensures.long ∙ c.before.before.before.be
 returns-2 : tie.Need-returns-2 invariant-loop decreases-loop
 returns-2 c =
     let f = c.before.before in
-    (f.before.before.before.before.before.before.has-inverse.ensures.yes (not-false _ f.before.before.before.before.before.if1.false), f.fails.ensures.none c.if2.true)
+    (f.before.before.before.before.before.before.has-inverse.ensures.yes f.before.before.before.before.before.if1.false, f.fails.ensures.none c.if2.true)
 
 loop-holds : tie.Need-loop-init invariant-loop decreases-loop
 loop-holds c =
@@ -62,7 +61,7 @@ here l =
     (o, in_buffer l.loop.r o.upto (omega arith) l.loop.invariant.1.0)
 
 odd : (l : tie.At-loop invariant-loop decreases-loop) → HasInverseMod (from l).args.n 2 (entries (from l).args.n (from l).args.a.now)
-odd l = let h = l.before.before.before.before.before.before.before.before in h.before.has-inverse.ensures.yes (not-false _ h.if1.false)
+odd l = let h = l.before.before.before.before.before.before.before.before in h.before.has-inverse.ensures.yes h.if1.false
 
 long : (l : tie.At-loop invariant-loop decreases-loop) → length l.loop.buf ≡ length (from l).args.buf.now
 long l = l.loop.invariant.1.0 ∙ sym (from l).requires.1.1
