@@ -1,5 +1,6 @@
 // Verdict and inverse.
 #![tactic(auto)]
+
 ghost use Rattle.std.specs.Prelude.{◌≡◌, ◌*◌, ◌^◌, length, take};
 ghost use Rattle.tables.specs.Tables.{entries, block};
 ghost use Rattle.numbers.specs.Limits.{IsOrder};
@@ -68,7 +69,7 @@ pub fn outcome_of(v: Ruling) -> Outcome
 fn find(n: usize, e: u32, k: u32, a: &[i64], buf: &mut [i64]) -> Finding
     requires setting { Setting n (2 ^ e) a.now }
     requires lifts { IsLifts n k }
-    requires buf_len { length buf.old ≡ 4096 }
+    requires room { length buf.old ≡ 4096 }
     ensures { FindingTells n (2 ^ e) a.now buf.new result }
 {
     if !eliminations::parity::has_inverse(n, a) {
@@ -102,7 +103,7 @@ fn find(n: usize, e: u32, k: u32, a: &[i64], buf: &mut [i64]) -> Finding
 // work of two rows of products, its residue is not zero. Blocks 2 and 3 are for work.
 fn fails(n: usize, e: u32, a: &[i64], buf: &mut [i64]) -> bool
     requires setting { Setting n (2 ^ e) a.now }
-    requires buf_len { length buf.old ≡ 4096 }
+    requires room { length buf.old ≡ 4096 }
     requires start { IsStart n (2 ^ e) (entries n a.now) (block n buf.old 0) (block n buf.old 1) }
     ensures { Fails n a.now buf.old result buf.new }
 {
@@ -165,7 +166,7 @@ pub fn verdict(n: usize, table: &[i64]) -> Ruling
 fn digits(n: usize, e: u32, a: &[i64], buf: &mut [i64]) -> bool
     requires stage { Stage n (2 ^ e) a.now buf.old }
     requires covers { Covers (2 ^ e) 2 }
-    requires buf_len { length buf.old ≡ 4096 }
+    requires room { length buf.old ≡ 4096 }
     ensures { Says (Summed n a.now buf.new) (NoneNarrow n a.now) result }
 {
     lifting::base(n, e, a, buf);
@@ -195,7 +196,7 @@ fn narrow(n: usize, buf: &[i64]) -> bool
 fn invert(n: usize, e: u32, a: &[i64], buf: &mut [i64]) -> bool
     requires stage { Stage n (2 ^ e) a.now buf.old }
     requires covers { Covers (2 ^ e) 2 }
-    requires buf_len { length buf.old ≡ 4096 }
+    requires room { length buf.old ≡ 4096 }
     ensures { Says (IsNarrowInverse n (entries n a.now) (take (n * n) buf.new)) (NoneNarrow n a.now) result }
 {
     if !digits(n, e, a, buf) {
