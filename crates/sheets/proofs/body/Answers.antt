@@ -1,7 +1,6 @@
 use Rattle.sheets.proofs.Reading.Ends.{filled, ends_short, ends_cells, ends_more, ends_whole}
 use mathlib.Core.Path.{refl}
 use native.Mathlib.Omega.{arith}
-use borrow.Author.Rules.{rules}
 use Rattle.tables.proofs.Buffers.Lists.{copied_list}
 use Rattle.sheets.proofs.body.Goals as goal
 

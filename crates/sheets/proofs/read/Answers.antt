@@ -2,7 +2,6 @@ use Rattle.sheets.proofs.Reading.Ends.{order_casts, order_ready, order_refused}
 use Rattle.sheets.specs.Answer.{length_wrong, refused}
 use mathlib.Core.Path.{refl}
 use native.Mathlib.Omega.{arith}
-use borrow.Author.Rules.{rules}
 use Rattle.sheets.proofs.read.Goals as goal
 
 pub returns-then-table-ne-MOST_CELLS : goal.returns-then-table-ne-MOST_CELLS

@@ -1,5 +1,4 @@
-use Rattle.sheets.proofs.Bytes.Written.{put_below, put_above}
-use borrow.Author.Rules.{rules}
+use Rattle.sheets.proofs.Bytes.Written.{put_below}
 use Rattle.sheets.proofs.writing.put_figure.Goals as goal
 
 pub returns-then-z-lt0 : goal.returns-then-z-lt0

@@ -1,10 +1,7 @@
 use Prim.Native.Nat.{◌-◌, ◌≤◌}
-use native.Mathlib.Omega.{arith}
-use mathlib.Core.Path.{ap}
-use lib.ListN.{length, drop, drop_of_length-le}
+use lib.ListN.{length, drop}
 use Rattle.sheets.specs.Sheet.{line}
-use Rattle.sheets.proofs.Bytes.Puts.{Partly, partly_start, partly_all, partly_length}
-use Rattle.sheets.proofs.Bytes.Written.{line_turn}
+use Rattle.sheets.proofs.Bytes.Puts.{Partly}
 use Rattle.sheets.proofs.writing.put_line.Given as goal
 
 abbrev pub invariant-loop-i : goal.invariant-loop-i

@@ -1,10 +1,5 @@
-use Prim.Native.Nat.{◌≤◌}
 use native.Mathlib.Omega.{arith}
-use borrow.Author.Rules.{rules}
-use lib.ListN.{length, drop}
-use Rattle.sheets.specs.Sheet.{rows}
-use Rattle.sheets.proofs.Bytes.Puts.{Partly, partly_length}
-use Rattle.sheets.proofs.Bytes.Written.{rows_start, rows_turn, rows_all}
+use Rattle.sheets.proofs.Bytes.Written.{rows_start, rows_turn}
 use Rattle.sheets.proofs.writing.put_rows.Goals as goal
 
 pub loop-left-init : goal.loop-left-init

@@ -1,9 +1,7 @@
 use mathlib.Core.Path.{◌≡◌, ap, refl}
-use Prim.Native.Nat.{◌*◌, ◌-◌}
 use native.Mathlib.Omega.{arith}
-use borrow.Author.Rules.{rules}
 use Rattle.sheets.specs.declared.number.Form.{Form}
-use Rattle.sheets.proofs.Reading.Entries.{Reading, reading_order, reading_cells, reading_done, reading_next, reading_bad}
+use Rattle.sheets.proofs.Reading.Entries.{reading_order, reading_cells, reading_next, reading_bad}
 use Rattle.sheets.proofs.Reading.Turns.{ready_sane, ready_inside}
 use Rattle.sheets.proofs.cursor.Cursor.entries.Goals as goal
 

@@ -1,9 +1,6 @@
-use mathlib.Core.Path.{refl, sym, ◌∙◌}
 use Prim.Native.Nat.{◌-◌}
-use native.Mathlib.Omega.{arith}
 use lib.ListN.{length}
-use borrow.Author.Rules.{rules}
-use Rattle.sheets.proofs.Reading.Scan.{Going, going_end, going_past, going_on, going_value, going_stop}
+use Rattle.sheets.proofs.Reading.Scan.{Going}
 use Rattle.sheets.proofs.cursor.Cursor.number.Given as goal
 
 abbrev pub invariant-loop-at : goal.invariant-loop-at
