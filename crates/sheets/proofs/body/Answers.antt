@@ -7,18 +7,7 @@ use Rattle.sheets.proofs.body.Goals as goal
 pub returns-then-at-text : goal.returns-then-at-text
 returns-then-at-text c =
     let w = filled _ _ _ c.in-Whole.ensures refl in
-    rw c.place.ensures (ends_more w c.requires.1 c.if-at-text.true)
-
-pub overflow_mul-n : goal.overflow_mul-n
-overflow_mul-n c =
-    let w = filled _ _ _ c.in-Whole.ensures refl in
-    omega (arith, ends_cells w)
-
-pub copy-requires : goal.copy-requires
-copy-requires c =
-    let w = filled _ _ _ c.in-Whole.ensures refl in
-    let s = c.requires.1 in
-    (omega (arith, ends_cells w, w.size), omega (arith, ends_cells w, s))
+    rw c.place.ensures (ends_more w c.requires.1 (omega arith))
 
 pub returns-in-Short : goal.returns-in-Short
 returns-in-Short c = ends_short _ _ c.args.n c.entries.new.table c.requires.1 c.in-Short.ensures refl
@@ -26,4 +15,4 @@ returns-in-Short c = ends_short _ _ c.args.n c.entries.new.table c.requires.1 c.
 pub returns-else-at-text : goal.returns-else-at-text
 returns-else-at-text c =
     let w = filled _ _ _ c.in-Whole.ensures refl in
-    ends_whole w c.requires.1 c.if-at-text.false (copied_list (omega (arith, ends_cells w, w.size)) (omega (arith, ends_cells w, c.requires.1)) c.copy.ensures)
+    ends_whole w c.requires.1 (omega arith) (copied_list (omega (arith, ends_cells w, w.size)) (omega (arith, ends_cells w, c.requires.1)) c.copy.ensures)

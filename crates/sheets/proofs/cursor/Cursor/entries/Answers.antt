@@ -9,7 +9,7 @@ pub overflow_mul-n : goal.overflow_mul-n
 overflow_mul-n c = omega (arith, reading_cells c.loop-p.invariant)
 
 pub entry_form-requires : goal.entry_form-requires
-entry_form-requires c = let l = c.loop-p in (reading_order l.invariant, omega (arith, reading_cells l.invariant, c.loop-p-test.true))
+entry_form-requires c = let l = c.loop-p in (reading_order l.invariant, omega (arith, reading_cells l.invariant))
 
 pub number-requires : goal.number-requires
 number-requires c =
@@ -18,18 +18,18 @@ number-requires c =
     (ready_sane r, ready_inside r, omega arith)
 
 pub offset_bounds-table-p : goal.offset_bounds-table-p
-offset_bounds-table-p c = omega (arith, reading_cells c.loop-p.invariant, c.loop-p-test.true)
+offset_bounds-table-p c = omega (arith, reading_cells c.loop-p.invariant)
 
 pub bounds-table-p : goal.bounds-table-p
-bounds-table-p c = omega (arith, reading_cells c.loop-p.invariant, c.loop-p-test.true)
+bounds-table-p c = omega (arith, reading_cells c.loop-p.invariant)
 
 pub overflow_add-p : goal.overflow_add-p
-overflow_add-p c = omega (arith, reading_cells c.loop-p.invariant, c.loop-p-test.true)
+overflow_add-p c = omega (arith, reading_cells c.loop-p.invariant)
 
 pub loop-p-preserved : goal.loop-p-preserved
 loop-p-preserved c =
-    reading_next c.loop-p.invariant c.loop-p-test.true c.entry_form.ensures c.in-Number.ensures refl
+    reading_next c.loop-p.invariant (omega arith) c.entry_form.ensures c.in-Number.ensures refl
 
 pub returns-in-Bad : goal.returns-in-Bad
 returns-in-Bad c =
-    reading_bad c.loop-p.invariant c.loop-p-test.true c.entry_form.ensures c.in-Bad.ensures refl
+    reading_bad c.loop-p.invariant (omega arith) c.entry_form.ensures c.in-Bad.ensures refl
