@@ -1,5 +1,6 @@
 // Reads a sheet on standard input and prints its report.
 #![tactic(auto)]
+
 ghost use Rattle.certify.specs.Program.{Asked, Prints};
 
 // So many bytes of a text decide.
