@@ -1,7 +1,7 @@
 -- The vocabulary of the elimination's inner contracts: a reader of the public calls can skip it. Two tables C and P, which begin as I and A, undergo
 -- the same column operations modulo m until P is I. Any machine form of a table serves: it enters only by the table that it stands for.
 --   ColumnStep x n d s a f C C'   modulo x, column d becomes a times itself and f times column s
---   Linked n m A C P              what such an operation keeps: P = A-as-C, and a table that kills P kills A
+--   Linked n m A C P              what such an operation keeps: P = A·C, and a table that kills P kills A
 --   Going n m r A C P             the same, and the first r rows of P are those of I
 --   Reaches n m r A P             the same, for some C
 --   Keeps n m r C P C' P'         whatever A is, r rows stay so

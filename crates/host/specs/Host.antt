@@ -1,9 +1,9 @@
 -- What the host's calls give. T is the lent table, as bytes; O is the lent buffer as it was, and E as it is left.
 --   host_verdict_refusals n T     the verdict's numbers in their order, for the decoded table, with 3 read on bytes
---   HostVerdictGives n T k      the verdict's number is k
+--   HostVerdictGives n T k        the verdict's number is k
 --   host_inverse_refusals n T O   the inverse call's numbers in their order, the same way
---   IsInverseBytes n T E        E is the whole inverse of the table, which is narrow, as bytes
---   HostInverseGives n T O k E  the inverse call's number is k, and it leaves E in the buffer
+--   IsInverseBytes n T E          E is the whole inverse of the table, which is narrow, as bytes
+--   HostInverseGives n T O k E    the inverse call's number is k, and it leaves E in the buffer
 use Rattle.std.specs.Prelude.{◌≡◌, ◌≢◌, ◌⊎◌, List, ℕ, ◌*◌, ℤ, length}
 use Rattle.numbers.specs.Refusals.{Refusals, Gives}
 use Rattle.tables.specs.Tables.{entries, HasWholeInverse}

@@ -1,5 +1,5 @@
 -- What the kernels on the blocks of a buffer ask, for any X that they divide or reduce by: that it is a power of 2 is said by the code alone.
---   Exact n A B           every sum on the way to an entry of A-as-B stays below 2^62
+--   Exact n A B           every sum on the way to an entry of A·B stays below 2^62
 --   ExactAt n A B i j     every sum on the way to its entry (i, j) stays below 2^62
 --   Dot n A p B q i j     an entry of the product of the tables at places p and q
 --   Product n L p q o     block o is to be the product of blocks p and q

@@ -32,7 +32,7 @@ expansion_exists p e n s h l A =
 pub expansion_unique : {n X s : ℕ} {A : Matrix} {L K : List ℤ} → 0 < X → IsExpansion n X s A L → IsExpansion n X s A K → L ≡ K
 expansion_unique {n} {X} {s} {A} {L} {K} h p q = expansion_same n X s h A L K p q
 
--- A-as-B_i = I - R_i-as-X_i
+-- A·B_i = I - R_i·X_i
 pub meaning : {n X s : ℕ} {A : Matrix} {L : List ℤ} → IsExpansion n X s A L → (i : ℕ) → i ≤ s → A ·⟨ n ⟩ lifted n X L i ≈⟨ n ⟩ δ ⊟ pos (modulus X i) ⊙ block n L (2 * i + 1)
 meaning p = upto_means p.blocks
 
@@ -63,7 +63,7 @@ module _ {n h X s : ℕ} {A : Matrix} {L : List ℤ} (wide : 60 ≤ X) (enough :
 -- ---- what lift leaves in the buffer, after 0
 
 module _ {n s e : ℕ} {A L E : List ℤ} (p : LiftGives n s e A L 0 E) where
-  -- A-as-B_i = I - R_i-as-X_i, with X = 2^e
+  -- A·B_i = I - R_i·X_i, with X = 2^e
   pub lift_meaning : (i : ℕ) → i ≤ s → entries n A ·⟨ n ⟩ lifted n (2 ^ e) E i ≈⟨ n ⟩ δ ⊟ pos (modulus (2 ^ e) i) ⊙ block n E (2 * i + 1)
   lift_meaning = meaning (p.written refl)
 

@@ -1,5 +1,5 @@
 -- Document 01's words for what an expansion stands for. No contract names them, only theorems (proofs/Expansion.antt).
---   modulus X i      X_i: X_0 = X and X_{i+1} = X_i²-as-X
+--   modulus X i      X_i: X_0 = X and X_{i+1} = X_i²·X
 --   next n x B R M   B·(I + x·R) + x²·M: where B is B_i and x is X_i, B_{i+1}
 --   lifted n X L i   B_i of the expansion L
 use Rattle.std.specs.Prelude.{List, ℕ, zero, suc, ◌+◌, ◌*◌, ℤ, pos, ◌*ℤ◌}

@@ -14,14 +14,14 @@ pub(crate) struct Cursor {
 }
 
 // What reading one number finds: the number and where the next begins, or what is wrong.
-#[derive(Drop)]
+#[derive(Clone, Copy)]
 pub(crate) enum Found {
     Number(i64, Cursor),
     Bad(Place),
 }
 
 // What reading all entries finds: where they end, or what is wrong.
-#[derive(Drop)]
+#[derive(Clone, Copy)]
 pub(crate) enum Rest {
     Whole(Cursor),
     Short(Place),

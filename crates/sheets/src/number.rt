@@ -11,7 +11,7 @@ pub(crate) struct Form {
 }
 
 // What has been seen of a number.
-#[derive(Drop)]
+#[derive(Clone, Copy)]
 pub(crate) enum Seen {
     Nothing,
     Minus,
@@ -20,7 +20,7 @@ pub(crate) enum Seen {
 }
 
 // What one more byte makes of it: more of a number, a whole one, or none.
-#[derive(Drop)]
+#[derive(Clone, Copy)]
 pub(crate) enum Next {
     Go(Seen),
     Value(i64),
@@ -28,7 +28,7 @@ pub(crate) enum Next {
 }
 
 // What one more byte makes of a magnitude.
-#[derive(Drop)]
+#[derive(Clone, Copy)]
 pub(crate) enum Grown {
     To(u64),
     Past,

@@ -1,6 +1,6 @@
 -- Lists of residues, in 32 bits each.
 --   residues n t          the table that a list of residues holds, row by row
---   row_times X n x y k    the first k products of a row x and each column of a table y, summed, in residues modulo X
+--   row_times X n x y k   the first k products of a row x and each column of a table y, summed, in residues modulo X
 -- What the work on their rows asks:
 --   Takes m A p t         the residues of m numbers of A, from place p on, are to be put into t
 --   Folds n x y z         the product of a row x and a table y is to be put into z, which is zero

@@ -6,7 +6,7 @@ ghost use Rattle.tables.specs.Tables.{height};
 ghost use Rattle.tables.specs.Checks.{Finds};
 
 // Where an entry is outside the range; row and column from 0.
-#[derive(Drop)]
+#[derive(Clone, Copy)]
 pub enum Outside {
     At { row: usize, column: usize },
     Nowhere,

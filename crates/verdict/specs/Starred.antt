@@ -5,7 +5,7 @@
 --   RuledYes n e k A E   what holds after a yes: the rule, the expansion E of k lifts at e, and the verdict
 --   Claim c              the claim of a line, about the rules and the calls' statements
 --   thin, thick          the 3 by 3 table of document 01, and the same with 262145
---   thin_expansion, thick-expansion   their expansions (corner: what follows B_0)
+--   thin_expansion, thick_expansion   their expansions (corner: what follows B_0)
 --   starred              the table of cases
 use Rattle.std.specs.Prelude.{◌≡◌, List, [], ◌∷◌, ℕ, ◌+◌, ◌*◌, ◌^◌, ◌≤◌, ℤ, pos, neg_ℤ, length, replicate}
 use Rattle.tables.specs.Tables.{entries, height}

@@ -18,7 +18,7 @@ const MOST_DIGIT: u64 = 8388608;
 pub const BUFFER: usize = 4096;
 
 // The verdict: yes or no, each with exponent and lifts, or refused by a number.
-#[derive(Drop)]
+#[derive(Clone, Copy)]
 pub enum Ruling {
     Yes { exponent: u32, lifts: u32 },
     No { exponent: u32, lifts: u32 },
@@ -26,7 +26,7 @@ pub enum Ruling {
 }
 
 // What the work finds: no inverse modulo 2; one modulo 2, but none whole; or a whole one.
-#[derive(Drop)]
+#[derive(Clone, Copy)]
 enum Finding {
     NoneModulo2,
     NoneWhole,
@@ -34,7 +34,7 @@ enum Finding {
 }
 
 // An answer as document 01 gives it: the number, and the exponent and the lifts beside it.
-#[derive(Drop)]
+#[derive(Clone, Copy)]
 pub struct Outcome {
     pub number: u32,
     pub exponent: u32,
@@ -154,7 +154,7 @@ fn decide(n: usize, a: &[i64], buf: &mut [i64]) -> Ruling
     }
 }
 
-// Is there a whole table B with A.B = I?
+// Is there a whole table B with A·B = I?
 pub fn verdict(n: usize, table: &[i64]) -> Ruling
     ensures { VerdictGives n table.now (outcome_of result) }
 {
@@ -205,7 +205,7 @@ fn invert(n: usize, e: u32, a: &[i64], buf: &mut [i64]) -> bool
     narrow(n, buf)
 }
 
-// The inverse call in a lent buffer: after 0 the table B with A.B = I stands in block 0.
+// The inverse call in a lent buffer: after 0 the table B with A·B = I stands in block 0.
 pub fn inverse_in(n: usize, table: &[i64], buf: &mut [i64]) -> Outcome
     requires { IsOrder n × (length buf.old ≡ 4096) }
     ensures { Standing n table.now result buf.new }
@@ -239,7 +239,8 @@ pub fn inverse_in(n: usize, table: &[i64], buf: &mut [i64]) -> Outcome
     }
 }
 
-// The table B with A.B = I, into out.
+// The table B with A·B = I, into out.
+#[tactic(auto, using(crate::proofs::Standing::left_as_it_was, crate::proofs::Standing::copied_out))]
 pub fn inverse(n: usize, table: &[i64], out: &mut [i64]) -> Outcome
     ensures { InverseGives n table.now out.old result out.new }
 {

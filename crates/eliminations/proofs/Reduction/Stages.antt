@@ -107,7 +107,7 @@ stuck {n} {m} {r} {A} {C} {P} t q two h g none = no_inverse t n W A r h (g.kept.
     W : Matrix
     W i = (δ ⊟ P) r
 
-    -- P_r-as-P = P_r-as-I: what differs from I in P meets a 0 of P_r
+    -- P_r·P = P_r·I: what differs from I in P meets a 0 of P_r
     square : (j : ℕ) → j < n → Cong x ((P ·⟨ n ⟩ P) r j) (P r j)
     square j hj =
         cong_trans (cong_sum x n (λ k hk. go k hk (dec_lt k r))) (cong_of_eq x (·-idʳ n P r j h hj))

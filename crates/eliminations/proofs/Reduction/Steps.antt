@@ -1,5 +1,5 @@
--- Column operations modulo x, and what they keep. An operation on C is the same operation on M-as-C, for every M: so P = A-as-C stays,
--- and where W-as-P comes to 0 it was 0.
+-- Column operations modulo x, and what they keep. An operation on C is the same operation on M·C, for every M: so P = A·C stays,
+-- and where W·P comes to 0 it was 0.
 use mathlib.Core.Path.{◌≡◌, refl, sym, ap, ap₂, ◌∙◌, subst}
 use mathlib.Core.Logic.{◌≢◌, ◌⊎◌, inr, ⊎_elim}
 use mathlib.Core.Bool.{cond}
@@ -40,7 +40,7 @@ moved_is {x} {d = d} {s = s} {a = a} {f = f} C = record {
   here = λ i hi. cong_of_eq x (ap (λ b. cond b (a *ℤ C i d +ℤ f *ℤ C i s) (C i d)) (eq-eqb d d refl));
 }
 
--- M·(a C_d + f C_s) = a (M-as-C_d) + f (M-as-C_s)
+-- M·(a C_d + f C_s) = a (M·C_d) + f (M·C_s)
 ·-linear : (n d s : ℕ) (a f : ℤ) (M C : Matrix) (i : ℕ)
     → sum n (λ k. M i k *ℤ (a *ℤ C k d +ℤ f *ℤ C k s)) ≡ a *ℤ (M ·⟨ n ⟩ C) i d +ℤ f *ℤ (M ·⟨ n ⟩ C) i s
 ·-linear n d s a f M C i =

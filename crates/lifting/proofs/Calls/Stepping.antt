@@ -47,7 +47,7 @@ shrink_asks s factor target apart low = record {
   exact = record { c = 2 ^ 20; d = 2 ^ 31; left = low_entries s.lawful; right = low; room = omega (arith, s.lawful.order.upto) };
 }
 
--- where D = Rem(B-as-R) stands in block d and R in block r, the division leaves the next residue in block r
+-- where D = Rem(B·R) stands in block d and R in block r, the division leaves the next residue in block r
 digit_found : (X : ℕ) (A K : List ℤ) (B R : Matrix) {n d r : ℕ} {M : List ℤ} → 0 < X → CongM n (pos X) (entries n A ·⟨ n ⟩ B) δ → r ≢ d
     → block n K d ≈⟨ n ⟩ rems X (B ·⟨ n ⟩ R) → block n K r ≈⟨ n ⟩ R → BlockPut n (shrunk n X A K d r) r K M → IsDigit n X (entries n A) B R (block n M d) (block n M r)
 digit_found X A K B R {n} {d} some right apart there same p =

@@ -1,4 +1,4 @@
--- A residue R_t stands for B_t of document 01: A-as-B_t = I - X_t-as-R_t, and 5·|B_t| ≤ 3·X_t.
+-- A residue R_t stands for B_t of document 01: A·B_t = I - X_t·R_t, and 5·|B_t| ≤ 3·X_t.
 use mathlib.Core.Path.{◌≡◌, sym, subst}
 use mathlib.Core.List.{List}
 use Prim.Native.Nat.{ℕ, zero, suc, ◌+◌, ◌*◌, ◌≤◌}

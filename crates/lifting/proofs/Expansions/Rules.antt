@@ -1,4 +1,4 @@
--- One start, one digit and one step: each holds of tables that agree, is unique, and exists where A-as-B = I modulo X.
+-- One start, one digit and one step: each holds of tables that agree, is unique, and exists where A·B = I modulo X.
 -- A step is a digit of R², and a start is one of I, so that the laws of a digit serve all three.
 use mathlib.Core.Path.{◌≡◌, sym, ap, subst, subst₂, ◌∙◌}
 use mathlib.Core.Logic.{◌≢◌}
@@ -86,7 +86,7 @@ module _ (n X : ℕ) (h : 0 < X) (A : Matrix) where
 pub divided : (n X : ℕ) (P Q : Matrix) → CongM n (pos X) Q P → P ⊟ Q ≈⟨ n ⟩ pos X ⊙ divide X (P ⊟ Q)
 divided n X P Q c i j h k = shr_exact X (cong_sym (c i j h k))
 
--- A-as-D = R modulo X where D = B-as-R, so that the division is exact
+-- A·D = R modulo X where D = B·R, so that the division is exact
 pub digit_exists : {n X : ℕ} {A B : Matrix} → CongM n (pos X) (A ·⟨ n ⟩ B) δ → (R D : Matrix) → Below n (λ i j. IsRem X ((B ·⟨ n ⟩ R) i j) (D i j))
     → IsDigit n X A B R D (divide X (R ⊟ A ·⟨ n ⟩ D))
 digit_exists {n} {X} {A} {B} right R D rem = record {

@@ -1,5 +1,5 @@
--- A residue R stands for a table C: A-as-C = F - x·R, with 5·|C| ≤ 3·x and 5·|R| ≤ 3·n·h, where x is what the modulus has come to. The residues of both rules
--- stand so: double-plus-one for F = I (Residues.antt), linear for every F (Linear.antt). Where R is 0, C solves A-as-C = F. And R is 0 where a solution is
+-- A residue R stands for a table C: A·C = F - x·R, with 5·|C| ≤ 3·x and 5·|R| ≤ 3·n·h, where x is what the modulus has come to. The residues of both rules
+-- stand so: double-plus-one for F = I (Residues.antt), linear for every F (Linear.antt). Where R is 0, C solves A·C = F. And R is 0 where a solution is
 -- small beside x, and where a whole inverse exists and x is large.
 use Prim.Native.Nat.{ℕ, ◌*◌, ◌-◌, ◌^◌, ◌≤◌, ◌<◌}
 use native.Mathlib.Omega.{arith}

@@ -1,4 +1,4 @@
--- A whole inverse is small: where A-as-B = I at order n, and A's entries have magnitude at most h, B's have at most (n * h) ^ (n - 1).
+-- A whole inverse is small: where A·B = I at order n, and A's entries have magnitude at most h, B's have at most (n * h) ^ (n - 1).
 -- No determinant is used. By Siegel's lemma there is, for each row j, a small row u, not all 0, such that u·A is 0 but for its
 -- entry j, which is some t. Then u = u·A·B is t times row j of B, so t is not 0, and row j of B is no larger than u.
 use mathlib.Core.Path.{◌≡◌, ap, ◌∙◌}

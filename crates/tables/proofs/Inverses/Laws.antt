@@ -14,7 +14,7 @@ use Rattle.tables.specs.Tables.{Matrix, ◌≈⟨◌⟩◌, ◌·⟨◌⟩◌, C
 use Rattle.tables.proofs.Algebra.Matrix.{𝟘, cong_m_eq}
 use Rattle.tables.proofs.Algebra.MatrixSolver.{MExpr, Assertionᴹ, matrix, modular, given◌is◌by◌and◌then◌, 𝟘ᵉ, 𝟙, ◌·ᵉ◌, ◌⊙ᵉ◌, ◌≑◌}
 
--- B = B·(A-as-C) = (B-as-A)·C = C
+-- B = B·(A·C) = (B·A)·C = C
 abbrev meet : MExpr → MExpr → MExpr → Assertionᴹ
 meet A B C = given B ·ᵉ A is 𝟙 by 𝟙 and C then given A ·ᵉ C is 𝟙 by (⊝ # 1) ⊙ᵉ B and 𝟙 then B ≑ C
 

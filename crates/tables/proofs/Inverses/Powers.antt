@@ -1,4 +1,4 @@
--- An inverse modulo p gives one modulo every power of p, and the other way round. So for p from 2 up A kills nothing but 0: where A-as-Z = 0, every power
+-- An inverse modulo p gives one modulo every power of p, and the other way round. So for p from 2 up A kills nothing but 0: where A·Z = 0, every power
 -- of p divides Z.
 use mathlib.Core.Path.{◌≡◌, sym, ap, subst, ◌∙◌}
 use Prim.Native.Nat.{ℕ, zero, suc, ◌+◌, ◌-◌, ◌*◌, ◌^◌, ◌≤◌}
@@ -30,7 +30,7 @@ pub base_mod : (p : ℕ) {n e : ℕ} {A : Matrix} → 1 ≤ e → HasInverseMod 
 base_mod p {e = zero} h w = absurd (omega arith)
 base_mod p {n} {e = suc e} {A} h w = fewer_mod p (p ^ e) (subst (λ (m : ℕ). HasInverseMod n m A) (pow-suc p e ∙ mul_comm (p ^ e) p) w)
 
--- from X to X²: A-as-C = I - X-as-Q gives A·(C·(I + X-as-Q)) = I - X²-as-Q²
+-- from X to X²: A·C = I - X·Q gives A·(C·(I + X·Q)) = I - X²·Q²
 squared_mod : (n X : ℕ) (A : Matrix) → HasInverseMod n X A → HasInverseMod n (X * X) A
 squared_mod n X A w =
     let C : Matrix = w.inverse in
@@ -62,7 +62,7 @@ power_mod p n A w e = fewer_mod (p ^ e) (p ^ (2 ^ e - e)) (subst (λ (m : ℕ). 
         let q : 2 ^ e ≡ e + (2 ^ e - e) = omega arith in
         ap (λ (y : ℕ). p ^ y) q ∙ pow-add p e (2 ^ e - e)
 
--- where A-as-Z = 0, Z is 0
+-- where A·Z = 0, Z is 0
 pub kernel : (p n : ℕ) (A Z : Matrix) → 2 ≤ p → HasInverseMod n p A → Zero n (A ·⟨ n ⟩ Z) → Zero n Z
 kernel p n A Z h w z i j a b =
     let m : ℕ = nat_abs (Z i j) in

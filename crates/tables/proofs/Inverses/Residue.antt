@@ -1,4 +1,4 @@
--- What the verdict rests on: where A-as-S = F and A-as-C = F - x·R, with S and C together smaller than x, and A has a left inverse
+-- What the verdict rests on: where A·S = F and A·C = F - x·R, with S and C together smaller than x, and A has a left inverse
 -- modulo x, S is C and the residue R is 0. For A·(S - C) = x·R, so x divides S - C, which is smaller than x. A whole inverse is such an S, for
 -- F = I, and no bound need be known of it where C is enough smaller than x: it is at most (n·h)^(n-1).
 use mathlib.Core.Path.{ap}
@@ -44,7 +44,7 @@ module _ (n : ℕ) (x : ℤ) (A U F S C R : Matrix) (left : CongM n x (U ·⟨ n
 pub inverse_near_zero : (n : ℕ) (A B C R : Matrix) (x : ℤ) → A ·⟨ n ⟩ B ≈⟨ n ⟩ δ → A ·⟨ n ⟩ C ≈⟨ n ⟩ δ ⊟ x ⊙ R → Below n (λ i j. nat_abs (B i j) + nat_abs (C i j) < nat_abs x) → Zero n R
 inverse_near_zero n A B C R x inverse = near_zero n x A B δ B C R (cong_m_eq n x (two_sided_whole n A B inverse)) inverse
 
--- where the residue is 0, C solves A-as-C = F
+-- where the residue is 0, C solves A·C = F
 pub zero_right : (n : ℕ) (x : ℤ) (A F C R : Matrix) → A ·⟨ n ⟩ C ≈⟨ n ⟩ F ⊟ x ⊙ R → Zero n R → A ·⟨ n ⟩ C ≈⟨ n ⟩ F
 zero_right n =
     matrix n 1 4 (λ x A F C R. given A ·ᵉ C is F ⊟ᵉ x ⊙ᵉ R by 𝟙 and 𝟙 then given R is 𝟘ᵉ by (⊝ x) ⊙ᵉ 𝟙 and 𝟙 then A ·ᵉ C ≑ F) tt

@@ -1,4 +1,4 @@
--- An inverse turned over is an inverse of the table turned over: the entry of Aᵀ-as-Bᵀ at i and j is that of B-as-A at j and i, and B-as-A = I with A-as-B = I.
+-- An inverse turned over is an inverse of the table turned over: the entry of Aᵀ·Bᵀ at i and j is that of B·A at j and i, and B·A = I with A·B = I.
 use mathlib.Core.Path.{◌≡◌}
 use Prim.Native.Nat.{ℕ}
 use lib.IntN.{pos}

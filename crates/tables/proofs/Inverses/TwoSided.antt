@@ -1,5 +1,5 @@
 -- A right inverse modulo X is a left inverse, and so is a whole right inverse, which is one modulo 0. There are finitely many tables modulo X from 1 up,
--- so two powers of the inverse B are congruent, B^i and B^(i+m+1). Times A^i they are I and B^(m+1), so B-as-D = I for D = B^m, and B-as-A = I with it.
+-- so two powers of the inverse B are congruent, B^i and B^(i+m+1). Times A^i they are I and B^(m+1), so B·D = I for D = B^m, and B·A = I with it.
 -- Hence an inverse is the only one.
 use mathlib.Core.Path.{◌≡◌, ap, ◌∙◌}
 use Prim.Native.Nat.{ℕ, zero, suc, ◌+◌, ◌-◌, ◌*◌, ◌/◌, ◌%◌, ◌^◌, ◌<◌}

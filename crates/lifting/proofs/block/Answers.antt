@@ -1,0 +1,8 @@
+use native.Mathlib.Omega.{arith}
+use borrow.Author.Rules.{rules}
+use Rattle.lifting.proofs.Calls.Blocks.{block_fits}
+use Rattle.tables.proofs.Checking.Views.{view_there, view_none}
+use Rattle.lifting.proofs.block.Goals as goal
+
+pub part-requires : goal.part-requires
+part-requires c = omega (arith, block_fits (c.has_block.ensures.yes c.if-has_block.true))
