@@ -5,7 +5,7 @@ use Prim.Native.Nat.{ℕ}
 use native.Mathlib.Omega.{arith}
 use lib.ListN.{length, take, drop, length-append}
 use lib.Seq.{take_at}
-use Rattle.io.proofs.Counting.{prefix_len_of_le}
+use Rattle.inputs.proofs.Counting.{prefix_len_of_le}
 use Rattle.reports.specs.Report.{IsReport, ReportGives, no_room, room}
 use Rattle.reports.proofs.Cut.{report_cut}
 use Rattle.certify.specs.Program.{Asked, Prints}

@@ -3,7 +3,7 @@
 --   AsRead text n t         the n bytes read are as much of the input t as the buffer `text` has room for
 --   Prints text n out r     whatever input was so read, the first r bytes of `out` are its report
 use Rattle.std.specs.Prelude.{◌≡◌, List, ℕ, length, take}
-use Rattle.io.specs.Counts.{IsPrefixLen}
+use Rattle.inputs.specs.Inputs.{IsPrefixLen}
 use Rattle.reports.specs.Report.{IsReport, report_room}
 
 pub record Asked (text : List ℕ) (n : ℕ) (out : List ℕ) : Type 0 where

@@ -1,18 +1,17 @@
 // Reads a sheet on standard input and prints its report.
 #![tactic(auto)]
-ghost use Rattle.certify.specs.Program.{Asked, Prints};
 
-use libc::{STDIN_FILENO, STDOUT_FILENO};
+ghost use Rattle.certify.specs.Program.{Asked, Prints};
 
 // So many bytes of a text decide.
 const TEXT_MOST: usize = 9220;
 
-fn main() {
+fn main(rt: HostRuntime) {
     let mut text = [0u8; TEXT_MOST];
     let mut out = [0u8; reports::ROOM];
-    let read = io::read_full(STDIN_FILENO, &mut text);
+    let read = inputs::read_full(&mut rt.stdin(), &mut text);
     let count = answer(&text, read, &mut out);
-    io::write_all(STDOUT_FILENO, &out[..count]);
+    let _ = rt.write_all(&out[..count]);
 }
 
 // Puts the report of an input into out, of which so many bytes are read into the text; gives the count of the report's bytes.

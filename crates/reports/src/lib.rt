@@ -1,5 +1,6 @@
 // The report of a text: what the program `certify` prints for it.
 #![tactic(auto)]
+
 ghost use Rattle.std.specs.Prelude.{◌≡◌, [], ◌∷◌, ◌*◌, ◌≤◌, length, take};
 ghost use Rattle.numbers.specs.Limits.{IsOrder};
 ghost use Rattle.sheets.specs.Sheet.{line};

@@ -6,7 +6,7 @@ use super::number::{Form, Next, Seen};
 use super::{Place, Reason};
 
 // A place in a text.
-#[derive(Drop)]
+#[derive(Clone, Copy)]
 pub(crate) struct Cursor {
     pub(crate) line: usize,
     pub(crate) column: usize,

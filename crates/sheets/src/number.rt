@@ -3,7 +3,7 @@ ghost use Rattle.std.specs.Prelude.{◌≡◌, cond, ◌≤◌, pos, neg_ℤ};
 ghost use Rattle.sheets.specs.Digits.{grown, after_byte, after_nothing, after_minus, after_plain, after_less, if_signed, Allowed};
 
 // What a number may be: with sign and zero or without both, its greatest magnitude, and the byte that closes it.
-#[derive(Drop)]
+#[derive(Clone, Copy)]
 pub(crate) struct Form {
     pub(crate) signed: bool,
     pub(crate) limit: u64,
