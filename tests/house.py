@@ -17,7 +17,7 @@ BELIEVED = [
     "verdict/specs/Verdict.antt",
     "octets/specs/Bytes.antt", "host/specs/Host.antt",
     "sheets/specs/Sheet.antt", "sheets/specs/Place.antt", "sheets/specs/Answer.antt",
-    "reports/specs/Report.antt", "certify/specs/Program.antt",
+    "reports/specs/Report.antt", "inputs/specs/Inputs.antt", "certify/specs/Program.antt",
 ]
 MOST_BELIEVED = 450
 
