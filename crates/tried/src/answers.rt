@@ -87,7 +87,7 @@ fn rest_is(case: &[i64], left: &[i64]) -> bool {
         if left[k] != at(case, i) {
             return false;
         }
-        i = std::num::wrapping_add_usize(i, 1);
+        i = i.wrapping_add(1);
         k += 1;
     }
     at(case, i) == UNSAID
@@ -101,7 +101,7 @@ fn room(size: usize) -> usize
 
 // The table of a case, of so many numbers.
 fn part(case: &[i64], count: usize) -> &[i64] {
-    let to = std::num::wrapping_add_usize(TABLE, count);
+    let to = TABLE.wrapping_add(count);
     if TABLE <= to {
         if to <= case.len() {
             return &case[TABLE..to];

@@ -44,7 +44,7 @@ pub(crate) fn numbers(text: &[u8]) -> [i64; ALL] {
 
 impl Reading {
     fn after(mut self, b: u8) -> Reading {
-        let digit = std::num::wrapping_sub_u8(b, b'0');
+        let digit = b.wrapping_sub(b'0');
         if digit < 10 {
             return self.with(digit);
         }

@@ -1,12 +1,4 @@
-use mathlib.Core.Path.{◌≡◌, sym}
-use mathlib.Core.List.{List}
-use Prim.Native.Nat.{◌*◌}
 use native.Mathlib.Omega.{arith}
-use borrow.Author.Rules.{rules}
-use lib.IntN.{ℤ}
-use lib.ListN.{length, take}
-use Rattle.tables.proofs.Buffers.Places.{square_small}
-use Rattle.verdict.proofs.Standing.{front_size}
 use Rattle.host.proofs.Refusals.{host_kept, host_written}
 use Rattle.host.proofs.hand.Goals as goal
 

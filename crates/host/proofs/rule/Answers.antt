@@ -1,6 +1,4 @@
 use mathlib.Core.Path.{ap}
-use native.Mathlib.Omega.{arith}
-use borrow.Author.Rules.{rules}
 use Rattle.verdict.specs.declared.Outcome.{Outcome}
 use Rattle.host.proofs.Refusals.{host_verdict}
 use Rattle.host.proofs.rule.Goals as goal

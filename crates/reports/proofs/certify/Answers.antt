@@ -1,5 +1,4 @@
-use Rattle.reports.proofs.Writing.{line_alone, line_and_rows}
-use borrow.Author.Rules.{rules}
+use Rattle.reports.proofs.Writing.{line_and_rows}
 use Rattle.reports.proofs.certify.Goals as goal
 
 pub returns : goal.returns

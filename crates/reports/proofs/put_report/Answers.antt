@@ -1,8 +1,7 @@
 use mathlib.Core.Path.{◌≡◌}
 use lib.IntN.{pos}
 use lib.ListN.{length, replicate, length-replicate}
-use Rattle.reports.proofs.Answered.{sheet_order, refused_near, never_length, sheet_puts, refused_puts}
-use borrow.Author.Rules.{rules}
+use Rattle.reports.proofs.Answered.{refused_near, sheet_puts, refused_puts}
 use Rattle.reports.proofs.put_report.Goals as goal
 
 zeros : length (replicate 1024 (pos 0)) ≡ 1024

@@ -1,18 +1,13 @@
-use mathlib.Core.Path.{◌≡◌, subst}
-use Prim.Native.Nat.{ℕ, ◌^◌}
+use mathlib.Core.Path.{subst}
+use Prim.Native.Nat.{ℕ}
 use native.Mathlib.Omega.{arith}
-use borrow.Author.Rules.{rules}
-use borrow.Author.Tests.{not-true, not-false}
-use Rattle.numbers.specs.Limits.{IsOrder, Lawful}
+use Rattle.numbers.specs.Limits.{Lawful}
 use Rattle.tables.specs.Tables.{height}
-use Rattle.tables.proofs.Buffers.Places.{square_small}
 use Rattle.tables.proofs.Checking.Heights.{height_one, legal_height}
 use Rattle.numbers.specs.Numbers.{IsNeed}
 use Rattle.tables.proofs.Inverses.Laws.{whole_mod}
 use Rattle.lifting.proofs.Calls.Holding.{setting, enough_32}
-use Rattle.verdict.specs.declared.Finding.{Finding}
-use Rattle.verdict.specs.Parts.{FindingTells}
-use Rattle.verdict.proofs.Refusals.{leaves_none, verdict_order, verdict_length, verdict_entry, verdict_yes, verdict_no}
+use Rattle.verdict.proofs.Refusals.{leaves_none, verdict_yes, verdict_no}
 use Rattle.verdict.proofs.decide.Goals as goal
 
 pub need-e-requires : goal.need-e-requires

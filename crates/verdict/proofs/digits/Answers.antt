@@ -1,16 +1,6 @@
-use Rattle.verdict.proofs.Width.{first_summed, digit_asks, two_wide, high_wide, extend_asks, summed}
-use Rattle.verdict.proofs.Buffer.{in_buffer, to_base}
+use Rattle.verdict.proofs.Width.{digit_asks, two_wide, high_wide, summed}
 use Rattle.numbers.proofs.Answers.Says.{say_yes, say_no}
-use borrow.Author.Tests.{not-true, not-false}
-use native.Mathlib.Omega.{arith}
-use mathlib.Core.Path.{◌≡◌, ◌∙◌}
-use Prim.Native.Nat.{ℕ, ◌≤◌}
-use mathlib.Core.List.{List}
-use lib.IntN.{ℤ}
-use lib.ListN.{length}
-use Rattle.numbers.specs.Limits.{IsOrder}
-use Rattle.tables.specs.Buffer.{Has}
-use borrow.Author.Rules.{rules}
+use mathlib.Core.Path.{◌∙◌}
 use Rattle.verdict.proofs.digits.Goals as goal
 
 pub digit-requires : goal.digit-requires

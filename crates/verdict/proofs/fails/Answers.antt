@@ -1,12 +1,8 @@
-use Rattle.lifting.proofs.Calls.Following.{Follows, follows_asks, follows_more}
-use Rattle.numbers.proofs.Algebra.Sum.{δ}
-use Rattle.verdict.proofs.Column.{copy_asks, copied_start, copied_column, copied_fails, follows_start, fails_not, fails_so}
+use Rattle.lifting.proofs.Calls.Following.{follows_asks, follows_more}
+use Rattle.verdict.proofs.Column.{copied_start, copied_column, copied_fails, follows_start, fails_so}
 use native.Mathlib.Omega.{arith}
-use Prim.Native.Nat.{◌-◌, ◌^◌, ◌≤◌}
-use mathlib.Core.Path.{◌≡◌, ◌∙◌}
-use lib.ListN.{length}
-use Rattle.numbers.specs.Limits.{IsOrder}
-use Rattle.tables.specs.Buffer.{Has}
+use Prim.Native.Nat.{◌^◌}
+use mathlib.Core.Path.{◌∙◌}
 use Rattle.verdict.proofs.fails.Goals as goal
 
 pub loop-t-init : goal.loop-t-init

@@ -1,17 +1,11 @@
 use Rattle.verdict.proofs.Rule.{judged_yes, judged_no}
-use Rattle.verdict.proofs.Buffer.{in_buffer, to_start}
+use Rattle.verdict.proofs.Buffer.{in_buffer}
 use Rattle.lifting.proofs.Expansions.Rules.{start_resp}
-use Rattle.lifting.proofs.Calls.Holding.{Holds, holds_first, holds_stage, holds_low, holds_step}
+use Rattle.lifting.proofs.Calls.Holding.{holds_first, holds_stage, holds_low, holds_step}
 use Rattle.tables.proofs.Algebra.Matrix.{≈-sym}
-use lib.ListN.{length}
-use Rattle.numbers.specs.Limits.{IsOrder}
-use Rattle.tables.specs.Buffer.{Has}
-use Rattle.tables.specs.Tables.{entries, HasInverseMod}
-use borrow.Author.Tests.{not-true, not-false}
 use native.Mathlib.Numerals.{add-one}
 use native.Mathlib.Omega.{arith}
-use Prim.Native.Nat.{◌+◌, ◌-◌, ◌^◌, ◌≤◌}
-use mathlib.Core.Path.{◌≡◌, refl, sym, ◌∙◌}
+use mathlib.Core.Path.{◌≡◌, refl, ◌∙◌}
 use Rattle.verdict.proofs.find.Goals as goal
 
 pub loop-t-init : goal.loop-t-init

@@ -1,6 +1,5 @@
 use native.Mathlib.Omega.{arith}
-use borrow.Author.Rules.{rules}
-use Rattle.verdict.proofs.Refusals.{leaves_yes, after_refused, after_no, after_wide, after_done}
+use Rattle.verdict.proofs.Refusals.{after_refused, after_no, after_wide, after_done}
 use Rattle.verdict.proofs.Standing.{front_size}
 use Rattle.verdict.proofs.inverse_in.Goals as goal
 

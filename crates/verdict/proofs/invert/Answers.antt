@@ -1,7 +1,5 @@
 use native.Mathlib.Omega.{arith}
-use borrow.Author.Rules.{rules}
-use borrow.Author.Tests.{not-true, not-false}
-use Rattle.numbers.proofs.Answers.Says.{say_no, say_map}
+use Rattle.numbers.proofs.Answers.Says.{say_map}
 use Rattle.verdict.proofs.Width.{not_narrow}
 use Rattle.verdict.proofs.Standing.{standing}
 use Rattle.verdict.proofs.invert.Goals as goal

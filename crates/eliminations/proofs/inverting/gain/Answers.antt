@@ -1,7 +1,5 @@
-use Rattle.tables.proofs.Buffers.Places.{square_small, row_end}
 use Rattle.eliminations.proofs.Reduction.Rows.{row_gains, held_copy}
 use native.Mathlib.Omega.{arith}
-use borrow.Author.Rules.{rules}
 use Rattle.eliminations.proofs.inverting.gain.Goals as goal
 
 pub returns : goal.returns

@@ -1,8 +1,5 @@
 use Rattle.tables.specs.Tables.{entries}
-use Rattle.tables.proofs.Buffers.Places.{square_small}
 use Rattle.eliminations.proofs.Reduction.Ends.{zeros, fresh, inverted}
-use native.Mathlib.Omega.{arith}
-use borrow.Author.Rules.{rules}
 use Rattle.eliminations.proofs.inverting.inverse.Goals as goal
 
 pub solve-requires-clause-spans : goal.solve-requires-clause-spans

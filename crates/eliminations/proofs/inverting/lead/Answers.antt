@@ -1,5 +1,4 @@
-use Rattle.eliminations.proofs.Reduction.Rows.{lead_here, lead_gain}
-use borrow.Author.Rules.{rules}
+use Rattle.eliminations.proofs.Reduction.Rows.{lead_gain}
 use mathlib.Core.Path.{refl}
 use Prim.Native.Nat.{◌^◌}
 use lib.IntN.{pos}

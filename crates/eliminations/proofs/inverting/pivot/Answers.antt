@@ -1,13 +1,11 @@
 use Rattle.eliminations.proofs.Reduction.Stages.{none_inside}
 use Rattle.tables.specs.Tables.{◌ᵀ}
-use Rattle.eliminations.specs.Elimination.{None}
 use Rattle.tables.specs.Residues.{residues}
 use Rattle.eliminations.proofs.Reduction.Stages.{none_more}
-use Rattle.eliminations.proofs.Reduction.Units.{is_multiple, not_multiple}
+use Rattle.eliminations.proofs.Reduction.Units.{is_multiple}
 use Rattle.tables.proofs.Buffers.Places.{square_small}
 use lib.Arith.{digits_lt}
 use native.Mathlib.Omega.{arith}
-use Prim.Native.Nat.{◌-◌, ◌≤◌, ◌<◌}
 use Rattle.eliminations.proofs.inverting.pivot.Goals as goal
 
 -- the row has an odd entry, so s is below n

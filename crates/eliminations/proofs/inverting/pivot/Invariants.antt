@@ -1,13 +1,7 @@
-use Rattle.eliminations.proofs.Reduction.Stages.{none_inside}
 use Rattle.tables.specs.Tables.{◌ᵀ}
 use Rattle.eliminations.specs.Elimination.{None}
 use Rattle.tables.specs.Residues.{residues}
-use Rattle.eliminations.proofs.Reduction.Stages.{none_more}
-use Rattle.eliminations.proofs.Reduction.Units.{is_multiple, not_multiple}
-use Rattle.tables.proofs.Buffers.Places.{square_small}
-use lib.Arith.{digits_lt}
-use native.Mathlib.Omega.{arith}
-use Prim.Native.Nat.{◌-◌, ◌≤◌, ◌<◌}
+use Prim.Native.Nat.{◌-◌, ◌≤◌}
 use Rattle.eliminations.proofs.inverting.pivot.Given as goal
 
 abbrev pub invariant-loop-s : goal.invariant-loop-s

@@ -1,12 +1,5 @@
-use mathlib.Core.Path.{sym, subst₂}
-use mathlib.Core.List.{List}
-use mathlib.Core.Logic.{⊎_elim}
-use borrow.Author.Rules.{rules}
-use Rattle.eliminations.proofs.Reduction.Rows.{Sweeping, row_gains, sweep_none, sweep_pivot, sweep_row, sweep_all}
-use Rattle.tables.proofs.Buffers.Places.{square_small, row_end}
-use lib.Arith.{digits_lt}
+use Rattle.eliminations.proofs.Reduction.Rows.{row_gains, sweep_pivot, sweep_row, sweep_all}
 use native.Mathlib.Omega.{arith}
-use Prim.Native.Nat.{ℕ, ◌+◌, ◌-◌, ◌*◌, ◌^◌, ◌≤◌, ◌<◌}
 use Rattle.eliminations.proofs.inverting.sweep.Goals as goal
 use Rattle.eliminations.proofs.inverting.sweep.Goals.{then-d-r, else-d-r}
 

@@ -1,9 +1,6 @@
-use mathlib.Core.Logic.{⊎_elim}
-use mathlib.Core.Path.{sym, ◌∙◌, subst}
-use mathlib.Core.List.{List}
-use Prim.Native.Nat.{ℕ, ◌+◌, ◌-◌, ◌≤◌}
+use mathlib.Core.Path.{sym, ◌∙◌}
 use native.Mathlib.Omega.{arith}
-use Rattle.eliminations.proofs.Reduction.Words.{Cleared, words_none, words_pivot, words_pass, words_join, words_all}
+use Rattle.eliminations.proofs.Reduction.Words.{words_pivot, words_pass, words_join, words_all}
 use Rattle.eliminations.proofs.parity.clear.Goals as goal
 use Rattle.eliminations.proofs.parity.clear.Goals.{then-m-r+then-bit-ne0, then-m-r+else-bit-ne0, else-m-r}
 

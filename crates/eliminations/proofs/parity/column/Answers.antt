@@ -1,15 +1,8 @@
-use mathlib.Core.Path.{◌≡◌}
-use mathlib.Core.Logic.{⊎_elim}
-use Prim.Native.Nat.{◌-◌, ◌<◌, ◌≤◌}
 use native.Mathlib.Omega.{arith}
-use borrow.Author.Rules.{rules}
-use lib.Arith.{digits_lt}
 use Rattle.numbers.proofs.Machine.{rd_ok}
 use Rattle.tables.specs.Tables.{entries}
-use Rattle.eliminations.specs.Parity.{Loaded}
-use Rattle.tables.proofs.Buffers.Places.{square_small}
 use Rattle.eliminations.proofs.Reduction.Bits.{one_shl}
-use Rattle.eliminations.proofs.Reduction.Loading.{load_none, load_even, load_odd}
+use Rattle.eliminations.proofs.Reduction.Loading.{load_even, load_odd}
 use Rattle.eliminations.proofs.parity.column.Goals as goal
 use Rattle.eliminations.proofs.parity.column.Goals.{then-odd, else-odd}
 

@@ -1,15 +1,7 @@
-use mathlib.Core.Path.{refl}
 use Prim.Native.Nat.{◌-◌, ◌≤◌}
-use native.Mathlib.Omega.{arith}
-use borrow.Author.Tests.{not-true, not-false}
-use lib.IntN.{pos}
-use Rattle.numbers.proofs.Answers.Says.{say_yes, say_no}
-use Rattle.numbers.proofs.Algebra.Sum.{δ}
 use Rattle.tables.specs.Tables.{entries}
 use Rattle.eliminations.specs.Elimination.{Reaches}
 use Rattle.eliminations.specs.Parity.{bits, Sized}
-use Rattle.tables.proofs.Algebra.Matrix.{cong_m_refl}
-use Rattle.eliminations.proofs.Reduction.Stages.{going_first, found, stuck}
 use Rattle.eliminations.proofs.parity.has_inverse.Given as goal
 
 abbrev pub invariant-loop-r : goal.invariant-loop-r

@@ -1,9 +1,7 @@
 use Prim.Native.Nat.{◌-◌, ◌≤◌}
-use native.Mathlib.Omega.{arith}
 use Rattle.tables.specs.Tables.{entries}
 use Rattle.eliminations.specs.Parity.{Sized}
-use Rattle.eliminations.proofs.Reduction.Loading.{Filled, fill_none, fill_more, fill_all}
-use Rattle.eliminations.proofs.Reduction.Words.{sized_set}
+use Rattle.eliminations.proofs.Reduction.Loading.{Filled}
 use Rattle.eliminations.proofs.parity.load.Given as goal
 
 abbrev pub invariant-loop-j : goal.invariant-loop-j

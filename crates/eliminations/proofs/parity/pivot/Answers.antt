@@ -1,13 +1,9 @@
-use mathlib.Core.Path.{◌≡◌, sym, ap, ◌∙◌}
-use Prim.Native.Nat.{◌-◌, ◌≤◌}
-use native.Mathlib.Nat.{mod-mod}
+use mathlib.Core.Path.{sym, ap, ◌∙◌}
 use native.Mathlib.Omega.{arith}
 use lib.IntN.{pos}
 use Rattle.numbers.proofs.Remainders.Congruence.{cong_of_eq}
-use Rattle.eliminations.specs.Elimination.{None}
 use Rattle.eliminations.specs.Parity.{bits}
 use Rattle.eliminations.proofs.Reduction.Stages.{none_more}
-use Rattle.eliminations.proofs.Reduction.Units.{not_multiple}
 use Rattle.eliminations.proofs.parity.pivot.Goals as goal
 
 pub loop-s-preserved : goal.loop-s-preserved

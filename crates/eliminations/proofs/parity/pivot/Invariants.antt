@@ -1,13 +1,6 @@
-use mathlib.Core.Path.{◌≡◌, sym, ap, ◌∙◌}
 use Prim.Native.Nat.{◌-◌, ◌≤◌}
-use native.Mathlib.Nat.{mod-mod}
-use native.Mathlib.Omega.{arith}
-use lib.IntN.{pos}
-use Rattle.numbers.proofs.Remainders.Congruence.{cong_of_eq}
 use Rattle.eliminations.specs.Elimination.{None}
 use Rattle.eliminations.specs.Parity.{bits}
-use Rattle.eliminations.proofs.Reduction.Stages.{none_more}
-use Rattle.eliminations.proofs.Reduction.Units.{not_multiple}
 use Rattle.eliminations.proofs.parity.pivot.Given as goal
 
 abbrev pub invariant-loop-s : goal.invariant-loop-s

@@ -1,11 +1,5 @@
 -- Where the two ways meet, `ready` says that word r has bit r and that the work done so far is kept.
-use mathlib.Core.Path.{sym, ◌∙◌, subst}
-use mathlib.Core.List.{List}
-use mathlib.Core.Logic.{⊎_elim}
-use Prim.Native.Nat.{ℕ}
-use native.Mathlib.Omega.{arith}
-use borrow.Author.Rules.{rules}
-use Rattle.numbers.proofs.Answers.Says.{say_yes, say_no}
+use Rattle.numbers.proofs.Answers.Says.{say_yes}
 use Rattle.eliminations.proofs.Reduction.Words.{Led, led_here, led_join}
 use Rattle.eliminations.proofs.parity.settle.Goals as goal
 use Rattle.eliminations.proofs.parity.settle.Goals.{then-s-r, else-s-r}

@@ -1,8 +1,6 @@
-use Rattle.tables.proofs.Buffers.Places.{square_small, row_end}
-use Rattle.kernels.proofs.Kernels.Products.{row_takes, fold_asks, widen_asks, row_done}
+use Rattle.kernels.proofs.Kernels.Products.{row_takes, fold_asks, row_done}
 use native.Mathlib.Omega.{arith}
 use Prim.Native.Nat.{◌^◌}
-use borrow.Author.Rules.{rules}
 use Rattle.kernels.proofs.block_residues.product_row.Goals as goal
 
 pub take-requires : goal.take-requires

@@ -1,14 +1,7 @@
 use Rattle.tables.specs.Buffer.{Wrote}
-use Rattle.tables.proofs.Buffers.Wrote.{wrote_none, wrote_more}
 use lib.IntN.{pos}
-use Rattle.numbers.proofs.Machine.{rd_got}
 use Rattle.tables.specs.Tables.{◌·⟨◌⟩◌, block}
-use Rattle.tables.proofs.Buffers.Places.{square_small, row_end}
-use Rattle.kernels.proofs.Kernels.Rows.{row_rest}
-use Rattle.kernels.proofs.Kernels.Blocks.{product_dot, product_kept, product_same}
-use native.Mathlib.Omega.{arith}
 use Prim.Native.Nat.{◌+◌, ◌*◌, ◌-◌, ◌≤◌}
-use mathlib.Core.Path.{◌≡◌, ◌∙◌}
 use Rattle.kernels.proofs.blocks.product_row.Given as goal
 
 abbrev pub invariant-loop-j : goal.invariant-loop-j

@@ -1,8 +1,6 @@
-use borrow.Author.Rules.{rules}
-use Rattle.tables.proofs.Buffers.Places.{square_small}
 use Rattle.numbers.proofs.Remainders.Powers.{power_divides}
 use Rattle.numbers.proofs.Remainders.Moduli.{exponent_of}
-use Rattle.kernels.proofs.Kernels.Remaining.{remain_1, remain_2, remain_3, remain_done}
+use Rattle.kernels.proofs.Kernels.Remaining.{remain_1, remain_done}
 use native.Mathlib.Omega.{arith}
 use Prim.Native.Nat.{◌^◌}
 use Rattle.kernels.proofs.blocks.remain.Goals as goal

@@ -1,17 +1,14 @@
-use Rattle.tables.specs.Buffer.{Wrote}
-use Rattle.tables.proofs.Buffers.Wrote.{wrote_none, wrote_more}
-use lib.IntN.{pos, ◌-ℤ◌}
+use Rattle.tables.proofs.Buffers.Wrote.{wrote_more}
+use lib.IntN.{pos}
 use lib.ListN.{get_or}
-use Rattle.numbers.proofs.Machine.{rd, rd_ok, rd_got}
-use Rattle.tables.specs.Tables.{◌·⟨◌⟩◌, block, entries}
-use Rattle.kernels.specs.Kernels.{shrunk}
+use Rattle.numbers.proofs.Machine.{rd_ok, rd_got}
 use Rattle.tables.proofs.Buffers.Places.{square_small, row_end}
 use Rattle.numbers.proofs.Remainders.Moduli.{exponent_upto}
 use Rattle.kernels.proofs.Kernels.Rows.{row_rest}
 use Rattle.kernels.proofs.Kernels.Blocks.{at_zero, shrink_dot, shrink_room, shrink_kept}
 use Rattle.tables.proofs.Algebra.Matrix.{·-cong}
 use native.Mathlib.Omega.{arith}
-use Prim.Native.Nat.{ℕ, ◌+◌, ◌*◌, ◌-◌, ◌^◌, ◌≤◌}
+use Prim.Native.Nat.{ℕ, ◌+◌, ◌*◌}
 use mathlib.Core.Path.{◌≡◌, ap, ◌∙◌}
 use Rattle.kernels.proofs.blocks.shrink_row.Goals as goal
 

@@ -1,15 +1,11 @@
-use lib.ListN.{length}
-use Rattle.numbers.proofs.Machine.{rd, rd_ok, rd_got}
+use Rattle.numbers.proofs.Machine.{rd_ok, rd_got}
 use Rattle.tables.specs.Tables.{◌·⟨◌⟩◌, block}
-use Rattle.tables.proofs.Buffers.Places.{square_small}
 use lib.Pow.{pow_pos}
-use Rattle.numbers.specs.Remainder.{rem}
 use Rattle.numbers.proofs.Remainders.Remainder.{rem_is, rem_unique}
 use Rattle.numbers.proofs.Remainders.Moduli.{exponent_of}
-use Rattle.kernels.proofs.Kernels.Columns.{head_room, Column, column_none, column_more, column_put, remain_dot, remain_same, remain_room}
-use native.Mathlib.Omega.{arith}
-use Prim.Native.Nat.{ℕ, ◌-◌, ◌^◌, ◌+◌, ◌*◌, ◌≤◌, ◌<◌}
-use mathlib.Core.Path.{◌≡◌, ◌∙◌}
+use Rattle.kernels.proofs.Kernels.Columns.{column_more, remain_dot, remain_same, remain_room}
+use Prim.Native.Nat.{◌^◌}
+use mathlib.Core.Path.{◌∙◌}
 use Rattle.kernels.proofs.columns.remain.Goals as goal
 
 pub dot-d-requires : goal.dot-d-requires

@@ -1,14 +1,8 @@
-use lib.ListN.{length}
-use lib.IntN.{◌-ℤ◌}
-use Rattle.numbers.proofs.Machine.{rd, rd_ok, rd_got}
-use Rattle.tables.specs.Tables.{◌·⟨◌⟩◌, block, entries}
-use Rattle.tables.proofs.Buffers.Places.{square_small}
-use Rattle.kernels.specs.Kernels.{shrunk}
+use Rattle.numbers.proofs.Machine.{rd_ok, rd_got}
 use Rattle.numbers.proofs.Remainders.Moduli.{exponent_upto}
-use Rattle.kernels.proofs.Kernels.Columns.{head, head_room, Column, column_none, column_more, column_put, shrink_dot, shrink_reads, shrink_sum, shrink_room}
+use Rattle.kernels.proofs.Kernels.Columns.{column_more, shrink_dot, shrink_reads, shrink_sum, shrink_room}
 use native.Mathlib.Omega.{arith}
-use Prim.Native.Nat.{ℕ, ◌-◌, ◌+◌, ◌*◌, ◌^◌, ◌≤◌, ◌<◌}
-use mathlib.Core.Path.{◌≡◌, ◌∙◌}
+use mathlib.Core.Path.{◌∙◌}
 use Rattle.kernels.proofs.columns.shrink.Goals as goal
 
 pub dot-d-requires : goal.dot-d-requires
