@@ -25,7 +25,7 @@ def told(command, text=None):
 def checks(lib):
     def sheets():
         for name, expected in SHEETS.items():
-            assert told(machine.run("target/bin/certify"), text=(ROOT / "examples" / name).read_bytes()) == expected, name
+            assert told(machine.run(machine.program("certify")), text=(ROOT / "examples" / name).read_bytes()) == expected, name
         return f"{len(SHEETS)} sheets"
 
     def a_determinant_of_3_that_floats_call_1():

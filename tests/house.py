@@ -1,10 +1,13 @@
 """Rules of the repository that the prover does not know."""
 import pathlib
 import re
+import shutil
 import subprocess
+import tempfile
 
-ROOT = pathlib.Path(__file__).resolve().parent.parent
-CRATES = ROOT / "crates"
+import edits
+from edits import CRATES, PARTS
+from machine import ROOT
 
 # The definitions that the promises of the public calls rest on: what a reader must believe.
 BELIEVED = [
@@ -14,7 +17,7 @@ BELIEVED = [
     "verdict/specs/Verdict.antt",
     "octets/specs/Bytes.antt", "host/specs/Host.antt",
     "sheets/specs/Sheet.antt", "sheets/specs/Place.antt", "sheets/specs/Answer.antt",
-    "reports/specs/Report.antt", "certify/specs/Program.antt",
+    "reports/specs/Report.antt", "inputs/specs/Inputs.antt", "certify/specs/Program.antt",
 ]
 MOST_BELIEVED = 450
 
@@ -29,6 +32,11 @@ FILE = r"\w+/(?:specs|proofs|src)/[\w/+]+\.(?:antt|rt)"
 CITATION = rf"(`[^`\s]+`(?:, `[^`\s]+`)*) \(({FILE})\)"
 
 
+def sources(*parts):
+    """The .antt files of the crates' own folders; what rt made of them stands in out/."""
+    return [path for part in parts for path in sorted(CRATES.glob(f"*/{part}/**/*.antt"))]
+
+
 def lines(path):
     """The lines of a file without comments, imports and blank lines."""
     text = path.read_text(encoding="utf8").splitlines()
@@ -36,8 +44,18 @@ def lines(path):
 
 
 def layout():
-    subprocess.run(["rt", "fmt", "--check"], cwd=ROOT, check=True, capture_output=True)
-    return "rt fmt --check"
+    """`rt fmt` changes nothing; it is run on copies, for it writes what it finds."""
+    crates = sorted(edits.rows())
+    with tempfile.TemporaryDirectory(prefix="muljenta-layout-") as room:
+        for crate in crates:
+            copy = pathlib.Path(room, crate)
+            for part in PARTS:
+                if (CRATES / crate / part).is_dir():
+                    shutil.copytree(CRATES / crate / part, copy / part)
+            subprocess.run(["rt", "fmt"], cwd=copy, check=True, capture_output=True)
+            changed = [path.relative_to(room) for path in copy.rglob("*") if path.is_file() and path.read_bytes() != (CRATES / path.relative_to(room)).read_bytes()]
+            assert not changed, f"run `rt fmt` in crates/{crate}: {[str(path) for path in changed]}"
+    return f"rt fmt of {len(crates)} crates"
 
 
 def definitions_to_believe():
@@ -48,11 +66,12 @@ def definitions_to_believe():
 
 def no_shortcut():
     """No axiom of our own, no hole, no classical axiom."""
-    for path in CRATES.rglob("*.antt"):
-        for number, line in enumerate(lines(path), 1):
+    files = sources("specs", "proofs")
+    for path in files:
+        for line in lines(path):
             bad = re.search(r"\b(postulate|axiom|lem|ac)\b|(?<![\w?])\?(?![\w?])", re.sub(r"--.*", "", line))
             assert not bad, f"{path}: {line}"
-    return f"{len(list(CRATES.rglob('*.antt')))} files"
+    return f"{len(files)} files"
 
 
 def definitions(path):
@@ -61,10 +80,10 @@ def definitions(path):
 
 
 def every_definition_file_opens_with_its_names():
-    files = [p for p in CRATES.rglob("specs/*.antt") if p.name != "Lib.antt"]
+    files = [p for p in sources("specs") if p.name != "Lib.antt"]
     for path in files:
         opening = re.match(r"(?:--.*\n)*", path.read_text(encoding="utf8")).group()
-        absent = [n for n in definitions(path) if not all(part in opening for part in n.split("_"))]
+        absent = [n for n in definitions(path) if not all(part in opening for part in n.split("◌"))]
         assert opening and not absent, f"{path}: {absent}"
     return f"{len(files)} files"
 
@@ -113,17 +132,16 @@ def the_rules_cite_every_definition_to_believe():
     return f"{len(believed)} definitions"
 
 
-# A complaint that shows nothing false by itself: a callee is not asked rightly, what was refused above is missing here, or the parts of a function's proof
-# (collected in its -spec) are not those of the code.
-REQUIREMENT = r"`[^`]*-requires(?:-\d+)?`"
-HOLLOW = rf"error: (?:{REQUIREMENT}|`[^`]*-spec`)|was not admitted|does not close {REQUIREMENT}(?:, {REQUIREMENT})*(?:;|$)"
+# What shows nothing false by itself, by the name of what is refused: a callee is not asked rightly, or the parts of a function's proof (collected in its _spec) are
+# not those of the code. (What was refused above and is missing here has a complaint without a name.)
+HOLLOW = r".*-requires(?:-.*)?|.*[-_]spec"
 
 
 def wrong_builds():
     """Of each wrong build in must-fail/: its edit, its name, the proof that must refuse it, and the theorem there that it makes false, which every build of a
     statement names. An edit has at most one build to a proof, so that what a proof complains of is its own build."""
     found = []
-    for edit in sorted(CRATES.glob("*/must-fail/*.edit")):
+    for edit in edits.edits():
         text = edit.read_text(encoding="utf8")
         builds = re.findall(r"^-- (\w+) \(([\w/]+)(?:\.([\w-]+))?\): \S.*\nfile: (\w+)/", text, re.M)
         proofs = {place for _, place, _, _ in builds}
@@ -133,23 +151,39 @@ def wrong_builds():
     return found
 
 
+def complaints(crate, place, text):
+    """The names of what a log says is refused in a proof: declarations of its files, and goals that are left to the prover's own search, which it names where it
+    says that they are open: after the function's name, and at lines of the function."""
+    function = "::".join([crate, *place.split("/")])
+    files = {f"src/{path.name}": functions(path) for path in CRATES.glob(f"{crate}/src/*.rt")}
+    found = []
+    for line in text.splitlines():
+        if declared := re.match(rf"(?:\./)?proofs/{place}(?:/(?:Proof|Invariants|Answers))?\.antt:\d+:\d+: error: `([^`]+)`:", line):
+            found.append(declared.group(1))
+        elif searched := re.match(rf"fn {function}: no proof: .*did not prove ([^;]*)", line):
+            found += re.findall("`([^`]+)`", searched.group(1))
+        elif at := re.match(r"note: (src/[\w/]+\.rt):(\d+):\d+: it is not proved that .*\(`([^`]+)`\)", line):
+            above = [name for begins, name, _ in files[at.group(1)] if begins <= int(at.group(2))]
+            found += [at.group(3)] if above[-1:] == [function] else []
+    return found
+
+
 def wrong_builds_are_refused_for_a_false_fact():
     """An edit that only makes a proof file unfit for the code shows nothing, and a call whose requirement fails says only that the callee is not asked
     rightly: something more must be false."""
-    for edit, name, place, theorem in wrong_builds():
-        crate = edit.parent.parent.name
-        log = ROOT / "target" / "must-fail" / crate / edit.stem / ".log"
-        assert log.exists(), f"no log of {edit}: run `rt ci` first"
-        text = log.read_text(encoding="utf8", errors="replace").splitlines()
-        unproved = rf"fn {crate}::{place}: no proof: .* does not close"  # of a function that has no proof file: the prover's own search
-        complaints = [l for l in text if re.search(rf"/proofs/{place}(/Proof)?\.antt:\d+:\d+: error|^{unproved}", l)]
-        assert complaints, f"{log}: {name}: its own proof says nothing"
-        unfit = [l for l in text if re.search("that can be named from here|has no field", l)]
+    builds = wrong_builds()
+    logs = edits.logs(edits.edits())
+    for edit, name, place, theorem in builds:
+        text, log = logs[edit], f"{edit.parent.parent.name}/{edit.stem}"
+        assert text, f"{log}: the check gave no verdict"
+        unfit = [line for line in text.splitlines() if re.search(r": error: .*(that can be named from here|has no field|is not in scope)", line)]
         assert not unfit, f"{log}: {unfit[:1]}"
-        false = [l for l in complaints if not re.search(HOLLOW, l)]
+        refused = complaints(edit.parent.parent.name, place, text)
+        assert refused, f"{log}: {name}: its own proof says nothing"
+        false = [part for part in refused if not re.fullmatch(HOLLOW, part)]
         assert false, f"{log}: {name}: only a requirement fails"
-        assert not theorem or any(f"error: `{theorem}`:" in l for l in false), f"{log}: {name}: {theorem} is not refused"
-    return f"{len(wrong_builds())} builds in {len(list(CRATES.glob('*/must-fail/*.edit')))} edits"
+        assert not theorem or theorem in false, f"{log}: {name}: {theorem} is not refused"
+    return f"{len(builds)} builds in {len(logs)} edits"
 
 
 def every_wrong_build_is_named_in_the_calls():
@@ -162,17 +196,20 @@ def every_wrong_build_is_named_in_the_calls():
     return f"{len(names)} names"
 
 
-def public_functions(path):
-    """The public functions of a source file, as crates that call them write them: crate::module::Type::function."""
+def functions(path):
+    """The functions of a source file in their order: the line where one begins, attributes included, its name as crates that call it write it
+    (crate::module::Type::function), and whether it is public."""
     crate, module = path.parts[-3], path.stem
-    found, owner = [], ""
-    for line in path.read_text(encoding="utf8").splitlines():
-        if begins := re.match(r"impl (\w+)", line):
-            owner = begins.group(1)
+    found, owner, begins = [], "", None
+    for number, line in enumerate(path.read_text(encoding="utf8").splitlines(), 1):
+        if head := re.match(r"impl (\w+)", line):
+            owner = head.group(1)
         elif line == "}":
             owner = ""
-        elif name := re.match(r' *pub (?:extern "C" )?fn (\w+)', line):
-            found.append("::".join(part for part in (crate, "" if module == "lib" else module, owner, name.group(1)) if part))
+        elif name := re.match(r' *(pub )?(?:extern "C" )?fn (\w+)', line):
+            parts = (crate, "" if module in ("lib", "main") else module, owner, name.group(2))
+            found.append((begins or number, "::".join(part for part in parts if part), bool(name.group(1))))
+        begins = (begins or number) if re.match(r" *#\[", line) else None
     return found
 
 
@@ -182,7 +219,7 @@ def every_inner_function_is_in_the_calls():
     named = [(path, name) for cell in re.findall(r"^\| (.*?) \|", page, re.M) for path, name in re.findall(r"`([\w:]+)::\{?([\w, ]+)\}?`", cell)]
     listed = {f"{path}::{name}" for path, names in named for name in names.split(", ")}
     calls = {f"{file.split('/')[0]}::{name}" for file, names in CALLS.items() for name in names}
-    public = {name for path in CRATES.glob("*/src/*.rt") if "probe" not in path.parts for name in public_functions(path)}
+    public = {name for path in CRATES.glob("*/src/*.rt") if "probe" not in path.parts for _, name, is_public in functions(path) if is_public}
     assert listed == public - calls, listed ^ (public - calls)
     return f"{len(listed)} functions"
 

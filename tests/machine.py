@@ -17,9 +17,14 @@ def run(program):
     return [*X86, "run", str(program)]
 
 
+def program(name):
+    """What `rt run` builds in a crate's folder."""
+    return f"{ROOT}/crates/{name}/out/{name}"
+
+
 def archive(name):
-    """What `rt staticlib` writes."""
-    return f"{ROOT}/target/staticlib/lib{name}.a"
+    """What `rt lib` builds in a static library's folder."""
+    return f"{ROOT}/crates/{name}/out/lib{name}.a"
 
 
 def not_run(what, why):

@@ -8,7 +8,7 @@ import grammar
 import machine
 import texts
 
-CERTIFY = machine.run(machine.ROOT / "target" / "bin" / "certify")
+CERTIFY = machine.run(machine.program("certify"))
 SEED, COUNT = 20261118, 400
 EMPTY = b"9 1 1 2\n"
 
