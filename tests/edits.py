@@ -3,6 +3,7 @@ no log; so here each is made once more, in a copy of its crate outside the repos
 has not changed since, with all that it rests on, is not tried again.
 usage: edits.py [CRATE..]   (tries their edits, or all, and names the logs)"""
 import concurrent.futures
+import fcntl
 import hashlib
 import os
 import pathlib
@@ -16,6 +17,8 @@ from machine import ROOT
 
 CRATES = ROOT / "crates"
 LOGS = ROOT / "target" / "must-fail"
+# The copies have the same places at each run, for `rt` notes every folder that it has checked a crate in.
+COPIES = pathlib.Path(tempfile.gettempdir(), f"muljenta-edits-{os.geteuid()}-{hashlib.sha256(str(ROOT).encode()).hexdigest()[:16]}")
 PARTS = ("src", "specs", "proofs")
 MEMORY = 3_000_000_000  # what a check may take, in bytes
 
@@ -76,9 +79,10 @@ class Edit:
 
     def made(self):
         """What the check says of a copy of the crate with this edit."""
-        listed = rows()
-        with tempfile.TemporaryDirectory(prefix="muljenta-edit-") as room:
-            room = pathlib.Path(room)
+        listed, room = rows(), COPIES / self.crate / self.path.stem
+        shutil.rmtree(room, ignore_errors=True)
+        room.mkdir(parents=True)
+        try:
             (room / "crates.txt").write_text("".join(f"{listed[name]}\n" for name in [*self.below, self.crate]), encoding="utf8")
             for name in [*self.below, self.crate]:
                 for part in (*PARTS, "out/incremental" if name == self.crate else "out/rlib"):
@@ -87,6 +91,8 @@ class Edit:
             for file, text in self.texts().items():
                 (room / "crates" / self.crate / file).write_text(text, encoding="utf8")
             return checked(room / "crates" / self.crate)
+        finally:
+            shutil.rmtree(room, ignore_errors=True)
 
     def tried(self):
         """What the check says, which is kept; None where it gave no verdict."""
@@ -107,7 +113,19 @@ def checked(folder):
 
 
 def logs(paths):
-    """The logs of edits, several made at a time."""
+    """The logs of edits, several made at a time; one run at a time makes them."""
+    LOGS.mkdir(parents=True, exist_ok=True)
+    with open(LOGS / "lock", "w", encoding="utf8") as lock:
+        fcntl.flock(lock, fcntl.LOCK_EX)
+        COPIES.mkdir(mode=0o700, exist_ok=True)
+        assert COPIES.stat().st_uid == os.geteuid() and not COPIES.is_symlink(), COPIES
+        try:
+            return all_logs(paths)
+        finally:
+            shutil.rmtree(COPIES, ignore_errors=True)
+
+
+def all_logs(paths):
     wanted = {path: Edit(path) for path in paths}
     texts = {path: edit.kept() for path, edit in wanted.items()}
     left = [path for path in paths if texts[path] is None]
