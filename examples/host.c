@@ -1,5 +1,5 @@
 /* A host in C: the inverse of a table of order 2, and a table that has none.
- *   bash .ci/x86 gcc -Iinclude examples/host.c crates/host/out/libhost.a -o target/host && bash .ci/x86 run target/host */
+ *   mkdir -p target && bash .ci/x86 gcc -Iinclude examples/host.c crates/host/out/libhost.a -o target/host && bash .ci/x86 run target/host */
 #include <inttypes.h>
 #include <stdio.h>
 #include <string.h>

@@ -1,5 +1,5 @@
 """A host in Python: the inverse of a table of order 2, and a table that has none. usage: host.py LIBRARY
-   gcc -shared -o target/libhost.so -Wl,--whole-archive crates/host/out/libhost.a -Wl,--no-whole-archive"""
+   mkdir -p target && gcc -shared -o target/libhost.so -Wl,--whole-archive crates/host/out/libhost.a -Wl,--no-whole-archive"""
 import ctypes
 import struct
 import sys

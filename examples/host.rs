@@ -1,5 +1,5 @@
 // A host in Rust: the inverse of a table of order 2, and a table that has none.
-//   rustc --edition 2021 -o target/host examples/host.rs -C link-arg=crates/host/out/libhost.a && target/host
+//   mkdir -p target && rustc --edition 2021 -o target/host examples/host.rs -C link-arg=crates/host/out/libhost.a && target/host
 extern "C" {
     fn muljenta_inverse(n: usize, table: *const u8, table_size: usize, out: *mut u8, out_size: usize) -> u32;
 }

@@ -1,6 +1,6 @@
 #!/usr/bin/env python3
-"""Spells the repository's own definitions and lemmas as today's Rattle does: words in snake case, types and modules in camel case. It ran once, after port.py, in
-the commit that docs/PORT.md names; on a tree that is spelled so already it changes nothing.
+"""Spells the repository's own definitions and lemmas as today's Rattle does: words in snake case, types and modules in camel case. It is for the older tree as
+port.py left it, and ran there once, in the commit that docs/PORT.md names: what was written later has names that it does not know.
 usage: snake_case.py [--check] [FOLDER]   (--check prints the table and the names that fall together, and writes nothing)
 
 What is declared in an .antt file is renamed wherever it is cited: in .antt, .rt and .edit files, and between backticks in pages. A dash stays where it joins an

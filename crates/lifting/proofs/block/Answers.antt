@@ -1,7 +1,5 @@
 use native.Mathlib.Omega.{arith}
-use borrow.Author.Rules.{rules}
 use Rattle.lifting.proofs.Calls.Blocks.{block_fits}
-use Rattle.tables.proofs.Checking.Views.{view_there, view_none}
 use Rattle.lifting.proofs.block.Goals as goal
 
 pub part-requires : goal.part-requires

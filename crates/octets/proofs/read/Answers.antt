@@ -1,12 +1,10 @@
-use mathlib.Core.Path.{◌≡◌, sym, ◌∙◌}
-use Prim.Native.Nat.{◌-◌, ◌≤◌}
+use mathlib.Core.Path.{sym, ◌∙◌}
 use native.Mathlib.Omega.{arith}
 use lib.IntN.{pos}
 use lib.ListN.{length, length-set}
 use Rattle.numbers.proofs.Machine.{rd_got}
-use Rattle.octets.specs.Bytes.{decode}
 use Rattle.octets.proofs.Bytes.{length_decode, decode_at}
-use Rattle.octets.proofs.Filling.{Filled, filled_none, filled_more, filled_all}
+use Rattle.octets.proofs.Filling.{filled_more, filled_all}
 use Rattle.octets.proofs.read.Goals as goal
 
 pub loop-i-preserved : goal.loop-i-preserved

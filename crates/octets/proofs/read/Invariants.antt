@@ -1,12 +1,8 @@
-use mathlib.Core.Path.{◌≡◌, sym, ◌∙◌}
+use mathlib.Core.Path.{◌≡◌}
 use Prim.Native.Nat.{◌-◌, ◌≤◌}
-use native.Mathlib.Omega.{arith}
-use lib.IntN.{pos}
-use lib.ListN.{length, length-set}
-use Rattle.numbers.proofs.Machine.{rd_got}
+use lib.ListN.{length}
 use Rattle.octets.specs.Bytes.{decode}
-use Rattle.octets.proofs.Bytes.{length_decode, decode_at}
-use Rattle.octets.proofs.Filling.{Filled, filled_none, filled_more, filled_all}
+use Rattle.octets.proofs.Filling.{Filled}
 use Rattle.octets.proofs.read.Given as goal
 
 abbrev pub invariant-loop-i : goal.invariant-loop-i

@@ -1,7 +1,5 @@
-use Rattle.tables.proofs.Buffers.Residues.{Folding, folding_none, folding_more, fold_rooms}
+use Rattle.tables.proofs.Buffers.Residues.{folding_none, folding_more}
 use native.Mathlib.Omega.{arith}
-use Prim.Native.Nat.{◌-◌, ◌^◌}
-use mathlib.Core.Path.{◌≡◌}
 use Rattle.tables.proofs.residues.fold_rows.Goals as goal
 
 pub loop-k-init : goal.loop-k-init

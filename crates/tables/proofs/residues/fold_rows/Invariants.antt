@@ -1,7 +1,5 @@
-use Rattle.tables.proofs.Buffers.Residues.{Folding, folding_none, folding_more, fold_rooms}
-use native.Mathlib.Omega.{arith}
+use Rattle.tables.proofs.Buffers.Residues.{Folding}
 use Prim.Native.Nat.{◌-◌, ◌^◌}
-use mathlib.Core.Path.{◌≡◌}
 use Rattle.tables.proofs.residues.fold_rows.Given as goal
 
 abbrev pub invariant-loop-k : goal.invariant-loop-k
