@@ -106,6 +106,10 @@ module _ {n X : ℕ} {A L : List ℤ} {m s : ℕ} (r : Shrink n X A L m s) where
       exact = exact-≈ (λ i j a b. refl) (≈-sym (w.rest m r.apart)) r.exact;
     }
 
+    -- what is subtracted is as it was
+    pub shrink_sum : {i j : ℕ} → i < n → j < n → (table_at n A 0 ·⟨ n ⟩ block n K m) i j ≡ (entries n A ·⟨ n ⟩ block n L m) i j
+    shrink_sum {i} {j} h k = ·-cong n (at_zero n A) (w.rest m r.apart) i j h k
+
     pub shrink_same : {i j : ℕ} → i < n → j < n → block n K s i j ≡ block n L s i j → shrunk n X A K m s i j ≡ shrunk n X A L m s i j
     shrink_same {i} {j} h k q = ap₂ (λ x y. shr_z (x -ℤ y) X) q (·-cong n {A = entries n A} (λ i j a b. refl) (w.rest m r.apart) i j h k)
 

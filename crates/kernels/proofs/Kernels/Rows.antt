@@ -1,12 +1,12 @@
 -- A block that is written row by row: while that goes on, the other blocks and the rows that are not reached are as they were.
-use mathlib.Core.Path.{◌≡◌, refl, sym, ◌∙◌}
+use mathlib.Core.Path.{◌≡◌, refl, sym, ap, ◌∙◌}
 use mathlib.Core.Logic.{◌≢◌}
 use mathlib.Core.List.{List}
 use Prim.Native.Nat.{ℕ, ◌+◌, ◌*◌, ◌≤◌, ◌<◌}
 use native.Mathlib.Nat.{mul-le-mul_right}
 use native.Mathlib.Omega.{arith}
 use lib.IntN.{ℤ, pos}
-use lib.ListN.{length}
+use lib.ListN.{length, get_or}
 use Rattle.tables.specs.Tables.{Matrix, ◌≈⟨◌⟩◌, block}
 use Rattle.tables.specs.Buffer.{BlockPut, RowPut, Wrote}
 use Rattle.tables.proofs.Buffers.Wrote.{wrote_none, wrote_join}
@@ -42,6 +42,12 @@ rows_rest {n} {o} r = record {
 
 pub row_rest : {n o i j : ℕ} {f : ℕ → ℤ} {L K : List ℤ} → i < n → j ≤ n → Wrote (pos 0) f (o * (n * n) + i * n) j L K → Beside n o L K
 row_rest {n} {o} h l w = record { long = w.long; rest = wrote_rest n o (omega arith) (omega (arith, row_end h)) w }
+
+-- the entry after those of its row that are written is as it was
+pub row_reads : (n o i : ℕ) {j : ℕ} {f : ℕ → ℤ} {L K : List ℤ} → Wrote (pos 0) f (o * (n * n) + i * n) j L K → get_or K (o * (n * n) + i * n + j) (pos 0) ≡ block n L o i j
+row_reads n o i {j} {L = L} w =
+    let e : o * (n * n) + i * n + j ≡ o * (n * n) + (i * n + j) = omega arith in
+    w.after _ (omega arith) ∙ ap (λ (k : ℕ). get_or L k (pos 0)) e
 
 -- the rows from i on are as they were
 pub rows_left : {n o i : ℕ} {F : Matrix} {L K : List ℤ} → Rows n F o i L K → (j : ℕ) → block n K o i j ≡ block n L o i j

@@ -1,15 +1,11 @@
 use Rattle.tables.proofs.Buffers.Wrote.{wrote_more}
-use lib.IntN.{pos}
-use lib.ListN.{get_or}
 use Rattle.numbers.proofs.Machine.{rd_ok, rd_got}
 use Rattle.tables.proofs.Buffers.Places.{square_small, row_end}
 use Rattle.numbers.proofs.Remainders.Moduli.{exponent_upto}
-use Rattle.kernels.proofs.Kernels.Rows.{row_rest}
-use Rattle.kernels.proofs.Kernels.Blocks.{at_zero, shrink_dot, shrink_room, shrink_kept}
-use Rattle.tables.proofs.Algebra.Matrix.{·-cong}
+use Rattle.kernels.proofs.Kernels.Rows.{row_rest, row_reads}
+use Rattle.kernels.proofs.Kernels.Blocks.{shrink_dot, shrink_room, shrink_kept, shrink_sum}
 use native.Mathlib.Omega.{arith}
-use Prim.Native.Nat.{ℕ, ◌+◌, ◌*◌}
-use mathlib.Core.Path.{◌≡◌, ap, ◌∙◌}
+use mathlib.Core.Path.{◌∙◌}
 use Rattle.kernels.proofs.blocks.shrink_row.Goals as goal
 
 pub dot-d-requires : goal.dot-d-requires
@@ -21,11 +17,9 @@ dot-d-requires c =
 pub sub-requires : goal.sub-requires
 sub-requires c =
     let r = c.requires in
-    let g = c.args in
     let w = row_rest r.1.0 c.loop-j.invariant.0 c.loop-j.invariant.1 in
-    let e : g.s * (g.n * g.n) + g.i * g.n + c.loop-j.j ≡ g.s * (g.n * g.n) + (g.i * g.n + c.loop-j.j) = omega arith in
-    let reads = rd_ok _ c.sub-arg-1.given ∙ c.loop-j.invariant.1.after _ (omega arith) ∙ ap (λ (k : ℕ). get_or g.buf.now k (pos 0)) e in
-    let sums = rd_got c.dot-d.result c.dot-d.type_inv c.dot-d.ensures ∙ ·-cong g.n (at_zero g.n g.a.now) (w.rest _ r.0.apart) _ _ r.1.0 c.loop-j-test.true in
+    let reads = rd_ok _ c.sub-arg-1.given ∙ row_reads c.args.n c.args.s c.args.i c.loop-j.invariant.1 in
+    let sums = rd_got c.dot-d.result c.dot-d.type_inv c.dot-d.ensures ∙ shrink_sum r.0 w r.1.0 c.loop-j-test.true in
     simp (reads, sums) (shrink_room r.0 r.1.0 c.loop-j-test.true r.1.1)
 
 pub shr-v-requires : goal.shr-v-requires
@@ -34,10 +28,8 @@ shr-v-requires c = omega (arith, exponent_upto c.requires.0.upto)
 pub loop-j-preserved : goal.loop-j-preserved
 loop-j-preserved c =
     let r = c.requires in
-    let g = c.args in
     let w = row_rest r.1.0 c.loop-j.invariant.0 c.loop-j.invariant.1 in
-    let e : g.s * (g.n * g.n) + g.i * g.n + c.loop-j.j ≡ g.s * (g.n * g.n) + (g.i * g.n + c.loop-j.j) = omega arith in
-    let reads = rd_ok _ c.sub-arg-1.given ∙ c.loop-j.invariant.1.after _ (omega arith) ∙ ap (λ (k : ℕ). get_or g.buf.now k (pos 0)) e in
-    let sums = rd_got c.dot-d.result c.dot-d.type_inv c.dot-d.ensures ∙ ·-cong g.n (at_zero g.n g.a.now) (w.rest _ r.0.apart) _ _ r.1.0 c.loop-j-test.true in
+    let reads = rd_ok _ c.sub-arg-1.given ∙ row_reads c.args.n c.args.s c.args.i c.loop-j.invariant.1 in
+    let sums = rd_got c.dot-d.result c.dot-d.type_inv c.dot-d.ensures ∙ shrink_sum r.0 w r.1.0 c.loop-j-test.true in
     let gap = rd_got c.sub.result c.sub.type_inv (simp (reads, sums) at c.sub.ensures) in
     (omega arith, wrote_more _ _ _ _ _ _ (omega (arith, row_end r.1.0, r.0.target, square_small r.0.order.upto)) (rd_ok c.shr-v.result c.shr-v.type_inv ∙ (simp gap at c.shr-v.ensures)) c.loop-j.invariant.1)
