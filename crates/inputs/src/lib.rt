@@ -13,23 +13,13 @@ pub fn read_full<R: Read>(input: &mut R, text: &mut [u8]) -> usize
     ensures bytes { Consumes (R.remaining input.old) (R.remaining input.new) (take result text.new) }
 {
     let mut read = 0;
+
+    // Not by `read_exact` or `read_to_end`: they say little of what was read before a failure.
     while read < text.len() {
-        let more = read_some(input, &mut text[read..]);
-        read += more;
-        if more == 0 {
-            return read;
+        match input.read(&mut text[read..]) {
+            Ok(0) | Err(_) => break,
+            Ok(more) => read += more,
         }
     }
     read
-}
-
-// One read; one that fails gives nothing.
-fn read_some<R: Read>(input: &mut R, room: &mut [u8]) -> usize
-    ensures within { IsPrefixLen result room.new }
-    ensures bytes { Consumes (R.remaining input.old) (R.remaining input.new) (take result room.new) }
-{
-    match input.read(room) {
-        Ok(more) => more,
-        Err(_) => 0,
-    }
 }

@@ -4,3 +4,5 @@ pub mod Moduli
 pub mod Refusals
 pub mod Limits
 pub mod Says
+pub mod Reasons
+pub mod Orders

@@ -1,76 +1,64 @@
--- Bytes, place by place: the number and the byte at each place of what is decoded and encoded.
-use mathlib.Core.Path.{◌≡◌, refl, sym, ap, ◌∙◌}
-use mathlib.Core.List.{List, [], ◌∷◌}
-use Prim.Native.Nat.{ℕ, zero, suc, ◌+◌, ◌-◌, ◌*◌, ◌/◌, ◌%◌, ◌^◌, ◌≤◌, ◌<◌}
-use native.Mathlib.Nat.{not-suc-le-zero, le_of_suc-le-suc, div-one, div-div-eq-div-mul}
-use native.Mathlib.Decide.{dec_lt}
+-- Bytes: how each number that is read or written extends what is decoded or encoded, and that std's conversions are those of specs/Bytes.antt.
+use mathlib.Core.Path.{◌≡◌, refl, sym, ap, ap₂, ◌∙◌}
+use mathlib.Core.List.{List, [], ◌∷◌, ◌++◌, append-nil, append_assoc}
+use Prim.Native.Nat.{ℕ, zero, suc, ◌+◌, ◌-◌, ◌*◌, ◌/◌, ◌%◌, ◌^◌, ◌<◌}
+use native.Mathlib.Nat.{pow-suc, div-one, div-div-eq-div-mul}
 use native.Mathlib.Omega.{arith}
 use lib.IntN.{ℤ, pos, negsuc}
-use lib.ListN.{length, get_or, length-append, get_or-append}
-use lib.Pow.{pow-add}
-use lib.Seq.{get_or-append-add}
+use lib.ListN.{length, get_or, take}
+use lib.Seq.{take-suc}
+use mir.Syntax.{w32, w64}
+use mir.Val.{to_z, of_z}
+use Rattle.std.specs.Int.{from_le_bytes, byte_at, bytes_low_first, to_le_bytes}
+use Rattle.std.specs.Simd.{first_chunks}
 use Rattle.octets.specs.Bytes.{signed32, decode, bits64, least_first, encode}
-use Rattle.octets.specs.Parts.{word_at, byte_of}
 
 -- ---- four bytes a number
 
 pub length_decode : (m : ℕ) (b : List ℕ) → length b ≡ 4 * m → length (decode b) ≡ m
-length_decode zero [] e = refl
-length_decode zero (a ∷ t) e = absurd (omega arith)
-length_decode (suc m) (a ∷ b ∷ c ∷ d ∷ t) e = ap suc (length_decode m t (omega arith))
-length_decode (suc m) (a ∷ b ∷ c ∷ []) e = absurd (omega arith)
-length_decode (suc m) (a ∷ b ∷ []) e = absurd (omega arith)
-length_decode (suc m) (a ∷ []) e = absurd (omega arith)
-length_decode (suc m) [] e = absurd (omega arith)
+length_decode m (a ∷ b ∷ c ∷ d ∷ t) e = omega (arith, length_decode (m - 1) t (omega arith))
+length_decode m (a ∷ b ∷ c ∷ []) e = absurd (omega arith)
+length_decode m (a ∷ b ∷ []) e = absurd (omega arith)
+length_decode m (a ∷ []) e = absurd (omega arith)
+length_decode m [] e = omega arith
 
--- four bytes on
-word_on : (a b c d : ℕ) (t : List ℕ) (i : ℕ) → word_at (a ∷ b ∷ c ∷ d ∷ t) (4 * suc i) ≡ word_at t (4 * i)
-word_on a b c d t i =
-    let e : 4 * suc i ≡ suc (suc (suc (suc (4 * i)))) = omega arith in
-    let f : (k : ℕ) → 4 * suc i + k ≡ suc (suc (suc (suc (4 * i + k)))) = λ k. omega arith in
-    rw (f 1, f 2, f 3, e)
+signed32_is : (u : ℕ) → to_z w32 u ≡ signed32 u
+signed32_is u = grind arith
 
-pub decode_at : (b : List ℕ) (i : ℕ) → 4 * i + 4 ≤ length b → get_or (decode b) i (pos 0) ≡ signed32 (word_at b (4 * i))
-decode_at (a ∷ b ∷ c ∷ d ∷ t) zero h = refl
-decode_at (a ∷ b ∷ c ∷ d ∷ t) (suc i) h = decode_at t i (omega arith) ∙ ap signed32 (sym (word_on a b c d t i))
-decode_at (a ∷ b ∷ c ∷ []) i h = absurd (omega arith)
-decode_at (a ∷ b ∷ []) i h = absurd (omega arith)
-decode_at (a ∷ []) i h = absurd (omega arith)
-decode_at [] i h = absurd (omega arith)
+-- number i is that of chunk i
+pub decode_at : (m : ℕ) (b : List ℕ) (i : ℕ) → i < m → length b ≡ 4 * m → to_z w32 (from_le_bytes w32 (get_or (first_chunks 4 m b) i [])) ≡ get_or (decode b) i (pos 0)
+decode_at zero b i h e = absurd (omega arith)
+decode_at (suc m) (a ∷ b ∷ c ∷ d ∷ t) zero h e = signed32_is (a + b * 256 ^ 1 + c * 256 ^ 2 + d * 256 ^ 3) ∙ ap signed32 (omega arith)
+decode_at (suc m) (a ∷ b ∷ c ∷ d ∷ t) (suc i) h e = decode_at m t i (omega arith) (omega arith)
+decode_at (suc m) (a ∷ b ∷ c ∷ []) i h e = absurd (omega arith)
+decode_at (suc m) (a ∷ b ∷ []) i h e = absurd (omega arith)
+decode_at (suc m) (a ∷ []) i h e = absurd (omega arith)
+decode_at (suc m) [] i h e = absurd (omega arith)
 
 -- ---- eight bytes a number
 
-length_least_first : (k u : ℕ) → length (least_first k u) ≡ k
-length_least_first zero u = refl
-length_least_first (suc k) u = ap suc (length_least_first k (u / 256))
+bits64_is : (v : ℤ) → of_z w64 v ≡ bits64 v
+bits64_is v = grind arith
 
-least_first_at : (k u j : ℕ) → j < k → get_or (least_first k u) j 0 ≡ u / 2 ^ (8 * j) % 256
-least_first_at zero u j h = absurd (not-suc-le-zero h)
-least_first_at (suc k) u zero h = ap (λ (v : ℕ). v % 256) (sym (div-one u))
-least_first_at (suc k) u (suc j) h =
-    let e : 8 * suc j ≡ 8 + 8 * j = omega arith in
-    least_first_at k (u / 256) j (le_of_suc-le-suc h)
-    ∙ ap (λ (v : ℕ). v % 256) (div-div-eq-div-mul u 256 (2 ^ (8 * j)) ∙ ap (λ (v : ℕ). u / v) (sym (pow-add 2 8 (8 * j)) ∙ ap (λ (v : ℕ). 2 ^ v) (sym e)))
-
-pub length_encode : (l : List ℤ) → length (encode l) ≡ 8 * length l
-length_encode [] = refl
-length_encode (v ∷ l) = omega (arith, length-append (least_first 8 (bits64 v)) (encode l), length_encode l)
-
-pub encode_at : (l : List ℤ) (p : ℕ) → p < 8 * length l → get_or (encode l) p 0 ≡ byte_of (get_or l (p / 8) (pos 0)) (p % 8)
-encode_at [] p h = absurd (omega arith)
-encode_at (v ∷ l) p h = elim (dec_lt p 8) [ yes k ↦ first k | no f ↦ later (p - 8) (omega arith) (encode_at l (p - 8) (omega arith)) ]
+-- the k bytes from byte i on
+least_first_at : (i k u : ℕ) → bytes_low_first i k u ≡ least_first k (u / 256 ^ i)
+least_first_at i zero u = refl
+least_first_at i (suc k) u = ap₂ (λ (a : ℕ) (l : List ℕ). a ∷ l) (low i) (least_first_at (suc i) k u ∙ ap (least_first k) (ap (λ (p : ℕ). u / p) (pow-suc 256 i) ∙ sym (div-div-eq-div-mul u (256 ^ i) 256)))
   where
-    first : p < 8 → get_or (encode (v ∷ l)) p 0 ≡ byte_of (get_or (v ∷ l) (p / 8) (pos 0)) (p % 8)
-    first k =
-        let e : p / 8 ≡ 0 = omega arith in
-        let g : p % 8 ≡ p = omega arith in
-        rw (e, g) (get_or-append (least_first 8 (bits64 v)) (encode l) 0 p k ∙ least_first_at 8 (bits64 v) p k)
+    low : (i : ℕ) → byte_at i u ≡ u / 256 ^ i % 256
+    low zero = ap (λ (v : ℕ). v % 256) (sym (div-one u))
+    low (suc i) = refl
 
-    later : (q : ℕ) → p ≡ 8 + q → get_or (encode l) q 0 ≡ byte_of (get_or l (q / 8) (pos 0)) (q % 8) → get_or (encode (v ∷ l)) p 0 ≡ byte_of (get_or (v ∷ l) (p / 8) (pos 0)) (p % 8)
-    later q i r =
-        let e : (8 + q) / 8 ≡ suc (q / 8) = omega arith in
-        let g : (8 + q) % 8 ≡ q % 8 = omega arith in
-        rw (i, e, g) (get_or-append-add (least_first 8 (bits64 v)) (encode l) q 0 ∙ r)
+pub eight_bytes : (v : ℤ) → to_le_bytes w64 (of_z w64 v) ≡ least_first 8 (bits64 v)
+eight_bytes v = least_first_at 0 8 (of_z w64 v) ∙ ap (least_first 8) (div-one (of_z w64 v) ∙ bits64_is v)
+
+-- a number more
+encode_append : (l : List ℤ) (v : ℤ) → encode (l ++ v ∷ []) ≡ encode l ++ least_first 8 (bits64 v)
+encode_append [] v = append-nil (least_first 8 (bits64 v))
+encode_append (x ∷ l) v = simp (encode_append l v, append_assoc)
+
+pub encode_more : (l : List ℤ) (i : ℕ) → i < length l → encode (take (suc i) l) ≡ encode (take i l) ++ least_first 8 (bits64 (get_or l i (pos 0)))
+encode_more l i h = ap encode (take-suc l i (pos 0) h) ∙ encode_append (take i l) (get_or l i (pos 0))
 
 -- ---- examples: FF FF FF FF 00 00 10 00 is -1 and 2^20; -2 and 2^37 as they are written
 

@@ -16,6 +16,6 @@ put_behind k m n text room within fits =
 pub loop-read-preserved : goal.loop-read-preserved
 loop-read-preserved g c =
     let l = c.loop-read in
-    let r = c.read_some-more in
-    let joined = put_behind l.read (length l.text - l.read) r.result l.text r.new.room l.invariant.0 r.ensures.within.0 in
-    (search rules, subst (Consumes _ _) (sym joined) (Consumes-trans _ _ _ _ _ l.invariant.1 r.ensures.bytes))
+    let r = c.in-Ok in
+    let joined = put_behind l.read (length l.text - l.read) r.more l.text c.read.new.buf l.invariant.0 r.ensures.bound.0 in
+    (search rules, subst (Consumes _ _) (sym joined) (Consumes-trans _ _ _ _ _ l.invariant.1 r.ensures.bytes.0))

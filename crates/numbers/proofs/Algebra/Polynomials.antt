@@ -6,9 +6,11 @@ use mathlib.Core.Path.{◌≡◌, refl, sym, ap, ap₂, ◌∙◌}
 use mathlib.Core.Bool.{Bool, true, false, ◌&&◌}
 use Prim.Native.Nat.{ℕ, zero, suc}
 use lib.Dec.{T}
-use lib.IntN.{ℤ, pos, negsuc, neg_ℤ, ◌+ℤ◌, ◌*ℤ◌, +ℤ_idl, +ℤ_idr, +ℤ_assoc, +ℤ_comm, *ℤ-zero}
+use lib.IntN.{ℤ, pos, negsuc, neg_ℤ, ◌+ℤ◌, ◌*ℤ◌, +ℤ_idl, +ℤ_comm}
+use native.Mathlib.Omega.{arith}
+use Rattle.std.proofs.lemmas.Int.{ints}
 use Rattle.numbers.proofs.Testing.Tests.{both}
-use Rattle.numbers.proofs.Algebra.IntRing.{+ℤ-swap, *ℤ-distribˡ, *ℤ-distribʳ, *ℤ-assoc, *ℤ-left_comm, *ℤ-idˡ, *ℤ-idʳ, negℤ-*ℤ}
+use Rattle.numbers.proofs.Algebra.IntRing.{*ℤ-distribˡ, *ℤ-distribʳ, *ℤ-assoc, *ℤ-left_comm}
 
 infixl 6 ◌⊕◌ ◌⊖◌
 infixl 7 ◌⊗◌
@@ -89,22 +91,20 @@ is_zero (p ⟨+x⟩ q) = is_zero p && is_zero q
 
 eval_unknown : (ρ : ℕ → ℤ) (i : ℕ) → eval ρ (unknown i) ≡ ρ i
 unfolding eval
-eval_unknown ρ zero = +ℤ_idl (ρ zero *ℤ pos 1) ∙ *ℤ-idʳ (ρ zero)
-eval_unknown ρ (suc i) = ap₂ (λ x y. x +ℤ y) (eval_unknown (later ρ) i) (*ℤ-zero (ρ zero)) ∙ +ℤ_idr (ρ (suc i))
+eval_unknown ρ zero = omega (arith, ints)
+eval_unknown ρ (suc i) = omega (arith, ints, eval_unknown (later ρ) i)
 
 eval_shift : (ρ : ℕ → ℤ) (c : ℤ) (p : Poly) → eval ρ (shift c p) ≡ c +ℤ eval ρ p
 unfolding eval
 eval_shift ρ c (lit d) = refl
-eval_shift ρ c (p ⟨+x⟩ q) = ap (λ x. x +ℤ ρ zero *ℤ eval ρ q) (eval_shift (later ρ) c p) ∙ +ℤ_assoc c (eval (later ρ) p) (ρ zero *ℤ eval ρ q)
+eval_shift ρ c (p ⟨+x⟩ q) = omega (arith, ints, eval_shift (later ρ) c p)
 
 pub eval_add : (ρ : ℕ → ℤ) (p q : Poly) → eval ρ (add p q) ≡ eval ρ p +ℤ eval ρ q
 unfolding eval
 eval_add ρ (lit c) r = eval_shift ρ c r
 eval_add ρ (p ⟨+x⟩ q) (lit c) = eval_shift ρ c (p ⟨+x⟩ q) ∙ +ℤ_comm c (eval ρ (p ⟨+x⟩ q))
 eval_add ρ (p ⟨+x⟩ q) (p' ⟨+x⟩ q') =
-    ap₂ (λ a b. a +ℤ ρ zero *ℤ b) (eval_add (later ρ) p p') (eval_add ρ q q')
-    ∙ ap (λ b. eval (later ρ) p +ℤ eval (later ρ) p' +ℤ b) (*ℤ-distribˡ (ρ zero) (eval ρ q) (eval ρ q'))
-    ∙ +ℤ-swap (eval (later ρ) p) (eval (later ρ) p') (ρ zero *ℤ eval ρ q) (ρ zero *ℤ eval ρ q')
+    rw (eval_add ρ q q', *ℤ-distribˡ (ρ zero) (eval ρ q) (eval ρ q')) (omega (arith, ints, eval_add (later ρ) p p'))
 
 -- c·a + x·(c·b), which is c·(a + x·b)
 factor : (c a x b : ℤ) → c *ℤ a +ℤ x *ℤ (c *ℤ b) ≡ c *ℤ (a +ℤ x *ℤ b)
@@ -118,7 +118,7 @@ eval_scale ρ c (p ⟨+x⟩ q) =
 
 eval_each : (ρ : ℕ → ℤ) (c : ℤ) (f : Poly → Poly) → ((p : Poly) → eval (later ρ) (f p) ≡ c *ℤ eval (later ρ) p) → (p : Poly) → eval ρ (each f p) ≡ c *ℤ eval ρ p
 unfolding eval
-eval_each ρ c f h (lit d) = ap₂ (λ x y. x +ℤ y) (h (lit d)) (*ℤ-zero (ρ zero)) ∙ +ℤ_idr (c *ℤ d)
+eval_each ρ c f h (lit d) = omega (arith, ints, h (lit d))
 eval_each ρ c f h (p ⟨+x⟩ q) =
     ap₂ (λ a b. a +ℤ ρ zero *ℤ b) (h p) (eval_each ρ c f h q) ∙ factor c (eval (later ρ) p) (ρ zero) (eval ρ q)
 
@@ -138,7 +138,7 @@ sound ρ (var i) = eval_unknown ρ i
 sound ρ (num c) = refl
 sound ρ (a ⊕ b) = eval_add ρ (norm a) (norm b) ∙ ap₂ (λ x y. x +ℤ y) (sound ρ a) (sound ρ b)
 sound ρ (a ⊗ b) = eval_mul ρ (norm a) (norm b) ∙ ap₂ (λ x y. x *ℤ y) (sound ρ a) (sound ρ b)
-sound ρ (⊝ a) = eval_scale ρ (negsuc 0) (norm a) ∙ negℤ-*ℤ (pos 1) (eval ρ (norm a)) ∙ ap neg_ℤ (*ℤ-idˡ (eval ρ (norm a)) ∙ sound ρ a)
+sound ρ (⊝ a) = omega (arith, ints, eval_scale ρ (negsuc 0) (norm a), sound ρ a)
 
 pub eval_is_zero : (ρ : ℕ → ℤ) (p : Poly) → T (is_zero p) → eval ρ p ≡ pos 0
 unfolding eval
@@ -147,4 +147,4 @@ eval_is_zero ρ (lit (pos (suc n))) t = absurd t
 eval_is_zero ρ (lit (negsuc n)) t = absurd t
 eval_is_zero ρ (p ⟨+x⟩ q) t =
     let (s, u) = both (is_zero p) (is_zero q) t in
-    ap₂ (λ a b. a +ℤ ρ zero *ℤ b) (eval_is_zero (later ρ) p s) (eval_is_zero ρ q u) ∙ +ℤ_idl (ρ zero *ℤ pos 0) ∙ *ℤ-zero (ρ zero)
+    rw (eval_is_zero (later ρ) p s, eval_is_zero ρ q u) (omega (arith, ints))

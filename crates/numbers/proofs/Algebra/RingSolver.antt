@@ -12,8 +12,9 @@ use mathlib.Core.List.{List, [], ◌∷◌}
 use Prim.Native.Nat.{ℕ, zero, suc}
 use lib.Dec.{T}
 use lib.ListN.{get_or}
-use lib.IntN.{ℤ, pos, ◌*ℤ◌, *ℤ-zero}
-use Rattle.numbers.proofs.Algebra.IntRing.{eq_of_sub, sub_zero}
+use lib.IntN.{ℤ, pos, ◌*ℤ◌}
+use native.Mathlib.Omega.{arith}
+use Rattle.std.proofs.lemmas.Int.{ints}
 use Rattle.numbers.proofs.Algebra.Polynomials.{eval_is_zero, sound}
 pub use Rattle.numbers.proofs.Algebra.Polynomials.{Expr, var, num, ◌⊕◌, ◌⊖◌, ◌⊗◌, ⊝◌, #◌, value, norm, is_zero}
 
@@ -35,10 +36,10 @@ gap (l ≐ r) = l ⊖ r
 gap (if l is r by c then k) = gap k ⊖ c ⊗ (l ⊖ r)
 
 asserts : (ρ : ℕ → ℤ) (k : Assertion) → value ρ (gap k) ≡ pos 0 → Asserts ρ k
-asserts ρ (l ≐ r) z = eq_of_sub (value ρ l) (value ρ r) z
+asserts ρ (l ≐ r) z = omega (arith, ints)
 asserts ρ (if l is r by c then k) z = λ e.
-    asserts ρ k
-    (eq_of_sub (value ρ (gap k)) (value ρ (c ⊗ (l ⊖ r))) z ∙ ap (λ x. value ρ c *ℤ x) (sub_zero e) ∙ *ℤ-zero (value ρ c))
+    let d : value ρ (l ⊖ r) ≡ pos 0 = omega (arith, ints) in
+    asserts ρ k (omega (arith, ints, ap (λ x. value ρ c *ℤ x) d))
 
 -- ---- an assertion for all integers. The last variable is number 0, so that the integers stand on a stack
 

@@ -5,13 +5,11 @@ use Prim.Native.Nat.{ℕ, zero, suc, ◌+◌, ◌*◌, ◌≤◌, ◌<◌, zero-
 use native.Mathlib.Nat.{le_step, le_refl, eq-or-lt_of_le, le_of_suc-le-suc}
 use native.Mathlib.Numerals.{add-one}
 use native.Mathlib.Omega.{arith}
-use native.Mathlib.Decide.{ℕ_discrete}
-use mathlib.Core.Bool.{cond}
-use borrow.Author.Tests.{eq-eqb, ne_eqb}
-use lib.IntN.{ℤ, pos, nat_abs, ◌+ℤ◌, ◌*ℤ◌, +ℤ_idl, +ℤ_idr, *ℤ_comm, *ℤ-zero, zero-*ℤ}
+use lib.IntN.{ℤ, pos, nat_abs, ◌+ℤ◌, ◌*ℤ◌, *ℤ_comm, *ℤ-zero, zero-*ℤ}
 unfoldable pub use Rattle.numbers.specs.Numbers.{sum, δ}
-use Rattle.numbers.proofs.Algebra.IntRing.{+ℤ-swap, *ℤ-distribˡ, *ℤ-idˡ}
-use Rattle.numbers.proofs.Algebra.IntOrder.{nat_abs-+ℤ}
+use Rattle.std.proofs.lemmas.Bool.Decides.{nat_tests}
+use Rattle.std.proofs.lemmas.Int.{ints}
+use Rattle.numbers.proofs.Algebra.IntRing.{*ℤ-distribˡ}
 
 -- one more term, at the code's `n + 1`
 pub sum_one : (n : ℕ) (f : ℕ → ℤ) → sum (n + 1) f ≡ sum n f +ℤ f n
@@ -27,17 +25,17 @@ sum_cong (suc n) h = ap₂ (λ x y. x +ℤ y) (sum_cong n (λ i k. h i (le_step 
 pub sum_zero : (n : ℕ) → sum n (λ i. pos 0) ≡ pos 0
 unfolding sum
 sum_zero zero = refl
-sum_zero (suc n) = ap (λ x. x +ℤ pos 0) (sum_zero n)
+sum_zero (suc n) = omega (arith, ints, sum_zero n)
 
 pub sum-+ : (n : ℕ) (f g : ℕ → ℤ) → sum n (λ i. f i +ℤ g i) ≡ sum n f +ℤ sum n g
 unfolding sum
 sum-+ zero f g = refl
-sum-+ (suc n) f g = ap (λ x. x +ℤ (f n +ℤ g n)) (sum-+ n f g) ∙ +ℤ-swap (sum n f) (sum n g) (f n) (g n)
+sum-+ (suc n) f g = omega (arith, ints, sum-+ n f g)
 
 pub sum_scaleˡ : (n : ℕ) (c : ℤ) (f : ℕ → ℤ) → sum n (λ i. c *ℤ f i) ≡ c *ℤ sum n f
 unfolding sum
 sum_scaleˡ zero c f = sym (*ℤ-zero c)
-sum_scaleˡ (suc n) c f = ap (λ x. x +ℤ c *ℤ f n) (sum_scaleˡ n c f) ∙ sym (*ℤ-distribˡ c (sum n f) (f n))
+sum_scaleˡ (suc n) c f = rw *ℤ-distribˡ (omega (arith, ints, sum_scaleˡ n c f))
 
 pub sum_scaleʳ : (n : ℕ) (f : ℕ → ℤ) (c : ℤ) → sum n (λ i. f i *ℤ c) ≡ sum n f *ℤ c
 sum_scaleʳ n f c = sum_cong n (λ i h. *ℤ_comm (f i) c) ∙ sum_scaleˡ n c f ∙ *ℤ_comm c (sum n f)
@@ -54,28 +52,23 @@ unfolding sum
 sum_single zero k f h z = absurd (omega arith)
 sum_single (suc n) k f h z =
     ⊎_elim
-    (λ e. ap₂ (λ x y. x +ℤ y) (sum_cong n (λ i l. z i (le_step l) (omega arith)) ∙ sum_zero n) (ap f (sym e)) ∙ +ℤ_idl (f k))
-    (λ l. ap₂ (λ x y. x +ℤ y) (sum_single n k f l (λ i m. z i (le_step m))) (z n (le_refl (suc n)) (omega arith)) ∙ +ℤ_idr (f k))
+    (λ e. omega (arith, ints, sum_cong n (λ i l. z i (le_step l) (omega arith)), sum_zero n, ap f e))
+    (λ l. omega (arith, ints, sum_single n k f l (λ i m. z i (le_step m)), z n (le_refl (suc n)) (omega arith)))
     (eq-or-lt_of_le (le_of_suc-le-suc h))
 
 pub δ_same : (i : ℕ) → δ i i ≡ pos 1
-δ_same i = ap (λ b. cond b (pos 1) (pos 0)) (eq-eqb i i refl)
+δ_same i = grind (arith, nat_tests)
 
 pub δ_other : {i j : ℕ} → i ≢ j → δ i j ≡ pos 0
-δ_other {i} {j} n = ap (λ b. cond b (pos 1) (pos 0)) (ne_eqb i j n)
+δ_other n = grind (arith, nat_tests)
 
 pub δ_comm : (i j : ℕ) → δ i j ≡ δ j i
-δ_comm i j = go (ℕ_discrete i j)
-  where
-    go : Dec (i ≡ j) → δ i j ≡ δ j i
-    go (yes p) = ap₂ δ p (sym p)
-    go (no n) = δ_other n ∙ sym (δ_other (λ p. n (sym p)))
+δ_comm i j = grind (arith, nat_tests)
 
 pub sum_δˡ : (n k : ℕ) (f : ℕ → ℤ) → k < n → sum n (λ i. δ k i *ℤ f i) ≡ f k
 sum_δˡ n k f h =
     sum_single n k (λ i. δ k i *ℤ f i) h (λ i l e. ap (λ x. x *ℤ f i) (δ_other (λ p. e (sym p))) ∙ zero-*ℤ (f i))
-    ∙ ap (λ x. x *ℤ f k) (δ_same k)
-    ∙ *ℤ-idˡ (f k)
+    ∙ rw δ_same (omega (arith, ints))
 
 pub sum_δʳ : (n k : ℕ) (f : ℕ → ℤ) → k < n → sum n (λ i. f i *ℤ δ i k) ≡ f k
 sum_δʳ n k f h = sum_cong n (λ i l. *ℤ_comm (f i) (δ i k) ∙ ap (λ x. x *ℤ f i) (δ_comm i k)) ∙ sum_δˡ n k f h
@@ -85,4 +78,4 @@ pub sum_bound : (n : ℕ) (f : ℕ → ℤ) (b : ℕ) → ((i : ℕ) → i < n �
 unfolding sum
 sum_bound zero f b h = zero-le
 sum_bound (suc n) f b h =
-    omega (arith, nat_abs-+ℤ (sum n f) (f n), sum_bound n f b (λ i k. h i (le_step k)), h n (le_refl (suc n)))
+    omega (arith, ints, sum_bound n f b (λ i k. h i (le_step k)), h n (le_refl (suc n)))

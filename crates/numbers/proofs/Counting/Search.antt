@@ -3,15 +3,15 @@ use mathlib.Core.Path.{◌≡◌, refl, sym, subst}
 use mathlib.Core.Bool.{Bool, true, false, ◌&&◌}
 use Prim.Native.Nat.{ℕ, zero, suc, ◌+◌, ◌*◌, ◌^◌, ◌<◌, ◌≤◌}
 use native.Mathlib.Omega.{arith}
-use native.Mathlib.Nat.{le_antisymm, lt_of_not-le, two-pow-succ, not-suc-le-zero}
-use native.Mathlib.Decide.{dec_le, ℕ_discrete}
+use native.Mathlib.Nat.{two-pow-succ, not-suc-le-zero}
+use native.Mathlib.Decide.{ℕ_discrete}
+use Rattle.std.proofs.Common.{rules}
 use lib.Dec.{T, leb, leb→le, le→leb}
 use lib.Pow.{pow_mono}
 use Rattle.numbers.specs.Numbers.{Least, Enough, IsNeed, IsLifts}
-use Rattle.numbers.proofs.Testing.Tests.{both, together}
 
 pub least_unique : (P : ℕ → Type 0) {j k : ℕ} → Least P j → Least P k → j ≡ k
-least_unique P {j} {k} a b = le_antisymm (a.least k b.holds) (b.least j a.holds)
+least_unique P a b = grind arith
 
 -- the first number from k up that passes p, and k + d where none of the d first does
 abbrev pub first : ℕ → ℕ → (ℕ → Bool) → ℕ
@@ -19,7 +19,7 @@ first zero k p = k
 first (suc d) k p = elim (p k) [ true ↦ k | false ↦ first d (suc k) p ]
 
 at_least : (k j : ℕ) (p : ℕ → Bool) → ((i : ℕ) → i < k → ¬ T (p i)) → T (p j) → k ≤ j
-at_least k j p below u = elim (dec_le k j) [ yes h ↦ h | no h ↦ absurd (below j (lt_of_not-le h) u) ]
+at_least k j p below u = grind arith
 
 pub first_least : (d k : ℕ) (p : ℕ → Bool) → ((j : ℕ) → j < k → ¬ T (p j)) → T (p (k + d)) → Least (λ j. T (p j)) (first d k p)
 first_least zero k p below t =
@@ -55,10 +55,7 @@ abbrev pub enough : ℕ → ℕ → Bool
 enough x e = leb 14 e && leb x (2 ^ e)
 
 pub enough_sound : (n h e : ℕ) → T (enough (4 * (n * n) * h) e) → Enough n h e
-enough_sound n h e t =
-    let x = 4 * (n * n) * h in
-    let p = both (leb 14 e) (leb x (2 ^ e)) t in
-    record { from = leb→le 14 e p.0; reaches = leb→le x (2 ^ e) p.1 }
+enough_sound n h e t = record { from = search rules; reaches = search rules }
 
 unfoldable pub need : ℕ → ℕ → ℕ
 need n h = let x = 4 * (n * n) * h in first x 14 (enough x)
@@ -68,16 +65,11 @@ unfolding need
 need_is n h =
     least_test (Enough n h) (enough x)
     (λ j t. enough_sound n h j t)
-    (λ j p. together (leb 14 j) (leb x (2 ^ j)) (le→leb 14 j p.from) (le→leb x (2 ^ j) p.reaches))
-    (first_least x 14 (enough x)
-    (λ j l t. no j l (both (leb 14 j) (leb x (2 ^ j)) t).0)
-    (together (leb 14 (14 + x)) (leb x (2 ^ (14 + x))) (le→leb 14 (14 + x) (omega arith)) (le→leb x (2 ^ (14 + x)) reach)))
+    (λ j p. search rules)
+    (first_least x 14 (enough x) (λ j l t. search rules) (let h = reach in search rules))
   where
     x : ℕ
     x = 4 * (n * n) * h
-
-    no : (j : ℕ) → j < 14 → ¬ T (leb 14 j)
-    no j l t = let h = leb→le 14 j t in omega arith
 
     reach : x ≤ 2 ^ (14 + x)
     reach = let a = below_pow x in let b = pow_mono {i = x} {j = 14 + x} (omega arith) in omega arith

@@ -1,17 +1,18 @@
 -- Congruence of integers: `Cong x z w` says that z - w is a multiple of x. It is an equivalence that sums, differences and products keep,
 -- and two congruent numbers that are nearer than x are equal.
-use mathlib.Core.Path.{◌≡◌, refl, ap, ◌∙◌}
+use mathlib.Core.Path.{◌≡◌, refl, ap}
 use Prim.Native.Nat.{ℕ, zero, suc, ◌<◌}
 use native.Mathlib.Nat.{le_step, le_refl}
-use lib.IntN.{ℤ, pos, neg_ℤ, nat_abs, ◌+ℤ◌, ◌-ℤ◌, ◌*ℤ◌, *ℤ-zero, zero-*ℤ}
-use Rattle.numbers.proofs.Algebra.IntRing.{eq_of_sub}
+use lib.IntN.{ℤ, pos, neg_ℤ, nat_abs, ◌+ℤ◌, ◌-ℤ◌, ◌*ℤ◌}
+use native.Mathlib.Omega.{arith}
+use Rattle.std.proofs.lemmas.Int.{ints}
 use Rattle.numbers.proofs.Algebra.IntOrder.{small_multiple}
 use Rattle.numbers.proofs.Algebra.RingSolver.{ring, if◌is◌by◌then◌, #◌, ⊝◌, ◌⊕◌, ◌⊖◌, ◌⊗◌, ◌≐◌}
 use Rattle.numbers.proofs.Algebra.Sum.{sum}
 pub use Rattle.numbers.specs.Numbers.{Cong}
 
 pub cong_of_eq : (x : ℤ) {z w : ℤ} → z ≡ w → Cong x z w
-cong_of_eq x {z} {w} e = record { quot = pos 0; eqn = ring 3 (λ x z w. if z is w by # 1 then z ⊖ w ≐ x ⊗ # 0) tt x z w e }
+cong_of_eq x {z} {w} e = record { quot = pos 0; eqn = omega (arith, ints) }
 
 pub cong_refl : {x : ℤ} (z : ℤ) → Cong x z z
 cong_refl {x} z = cong_of_eq x refl
@@ -24,7 +25,7 @@ module _ {x z w : ℤ} (h : Cong x z w) where
   cong_neg = record { quot = neg_ℤ h.quot; eqn = ring 4 (λ x z w q. if z ⊖ w is x ⊗ q by ⊝ (# 1) then ⊝ z ⊖ ⊝ w ≐ x ⊗ ⊝ q) tt x z w h.quot h.eqn }
 
   pub cong_sub_zero : Cong x (z -ℤ w) (pos 0)
-  cong_sub_zero = record { quot = h.quot; eqn = ring 4 (λ x z w q. if z ⊖ w is x ⊗ q by # 1 then z ⊖ w ⊖ # 0 ≐ x ⊗ q) tt x z w h.quot h.eqn }
+  cong_sub_zero = record { quot = h.quot; eqn = omega (arith, ints, h.eqn) }
 
   -- modulo a divisor of the modulus
   pub cong_down : {t : ℤ} → Cong t x (pos 0) → Cong t z w
@@ -36,7 +37,7 @@ module _ {x z w : ℤ} (h : Cong x z w) where
 
   -- nearer than the modulus, they are equal
   pub cong_near : nat_abs (z -ℤ w) < nat_abs x → z ≡ w
-  cong_near k = eq_of_sub z w (h.eqn ∙ ap (λ q. x *ℤ q) (small_multiple x h.quot (rw h.eqn at k)) ∙ *ℤ-zero x)
+  cong_near k = let e = ap (λ q. x *ℤ q) (small_multiple x h.quot (rw h.eqn at k)) in omega (arith, ints, h.eqn, e)
 
   pub cong_trans : {v : ℤ} → Cong x w v → Cong x z v
   cong_trans {v} k =
@@ -63,11 +64,11 @@ module _ {x z w : ℤ} (h : Cong x z w) where
         }
 
 pub cong_of_sub : {x z w : ℤ} → Cong x (z -ℤ w) (pos 0) → Cong x z w
-cong_of_sub {x} {z} {w} h = record { quot = h.quot; eqn = ring 4 (λ x z w q. if z ⊖ w ⊖ # 0 is x ⊗ q by # 1 then z ⊖ w ≐ x ⊗ q) tt x z w h.quot h.eqn }
+cong_of_sub {x} {z} {w} h = record { quot = h.quot; eqn = omega (arith, ints, h.eqn) }
 
 -- modulo 0, congruent is equal
 pub cong_zero : {z w : ℤ} → Cong (pos 0) z w → z ≡ w
-cong_zero {z} {w} h = eq_of_sub z w (h.eqn ∙ zero-*ℤ h.quot)
+cong_zero {z} {w} h = omega (arith, ints, h.eqn)
 
 pub cong_sub : {x z w z' w' : ℤ} → Cong x z w → Cong x z' w' → Cong x (z -ℤ z') (w -ℤ w')
 cong_sub h k = cong-+ h (cong_neg k)

@@ -1,27 +1,24 @@
 -- Division by x, rounded down, as the machine's shift does it (`shr_z`): the residue is left over, and a multiple of x is divided exactly.
-use mathlib.Core.Path.{◌≡◌, refl, sym, ap, ◌∙◌}
-use Prim.Native.Nat.{ℕ, zero, suc, ◌+◌, ◌-◌, ◌*◌, ◌/◌, ◌%◌, ◌<◌}
+use mathlib.Core.Path.{◌≡◌, sym, ap, ◌∙◌}
+use Prim.Native.Nat.{ℕ, zero, suc, ◌+◌, ◌*◌, ◌%◌, ◌<◌}
 use native.Mathlib.Nat.{mul-div_cancel_left, div-add-mod, mod-lt}
 use native.Mathlib.Omega.{arith}
 use lib.Arith.{digits_div}
-use lib.IntN.{ℤ, pos, negsuc, neg_ℤ, nat_abs, ◌+ℤ◌, ◌-ℤ◌, ◌*ℤ◌, zero-*ℤ}
+use lib.IntN.{ℤ, pos, neg_ℤ, nat_abs, ◌+ℤ◌, ◌-ℤ◌, ◌*ℤ◌}
 use lib.Signed.{shr_z}
 use Rattle.numbers.specs.Remainder.{residue}
 use Rattle.numbers.proofs.Algebra.RingSolver.{ring, if◌is◌by◌then◌, #◌, ⊝◌, ◌⊕◌, ◌⊖◌, ◌⊗◌, ◌≐◌}
-use Rattle.numbers.proofs.Algebra.IntLinear.{integers, parts, minus, sums, scales}
+use Rattle.std.proofs.lemmas.Int.{ints}
 use Rattle.numbers.proofs.Remainders.Congruence.{Cong, cong_sym, cong_trans, cong_near, cong-+, cong_refl}
 
 module _ (x : ℕ) (h : 0 < x) where
   -- ---- rounded down
 
   pub residue_below : (v : ℤ) → residue x v < x
-  residue_below (pos a) = mod-lt a h
-  residue_below (negsuc a) = omega arith
+  residue_below v = grind (arith, mod-lt)
 
   pub floor : (v : ℤ) → v ≡ pos x *ℤ shr_z v x +ℤ pos (residue x v)
-  floor (pos a) = ap pos (sym (div-add-mod a x))
-  floor (negsuc a) =
-      omega (arith, integers, sums (pos x *ℤ negsuc (a / x)) (pos (x - suc (a % x))), scales x (negsuc (a / x)), div-add-mod a x, mod-lt a h)
+  floor v = grind (arith, ints, div-add-mod, mod-lt)
 
   pub residue_cong : (v : ℤ) → Cong (pos x) (pos (residue x v)) v
   residue_cong v =
@@ -33,7 +30,7 @@ module _ (x : ℕ) (h : 0 < x) where
       let a : ℤ = pos (residue x v) in
       let b : ℤ = pos (residue x w) in
       ap nat_abs (cong_near (cong_trans (residue_cong v) (cong_trans c (cong_sym (residue_cong w))))
-      (omega (arith, residue_below v, residue_below w, parts (a -ℤ b), sums a (neg_ℤ b), minus b)))
+      (omega (arith, ints, residue_below v, residue_below w)))
 
   -- a residue and a product more
   pub residue_fold : (s : ℤ) (a b : ℕ) → (residue x s + a * b) % x ≡ residue x (s +ℤ pos a *ℤ pos b)
@@ -41,18 +38,10 @@ module _ (x : ℕ) (h : 0 < x) where
 
   -- ---- exact
 
-  shr_z_neg : (n m : ℕ) → n ≡ x * suc m → shr_z (neg_ℤ (pos n)) x ≡ negsuc m
-  shr_z_neg zero m e = absurd (omega arith)
-  shr_z_neg (suc a) m e = ap negsuc (ap (λ k. k / x) split ∙ digits_div m (omega arith))
-    where
-      split : a ≡ m * x + (x - 1)
-      split = omega arith
-
   shr_z-* : (q : ℤ) → shr_z (pos x *ℤ q) x ≡ q
-  shr_z-* (pos m) = ap pos (mul-div_cancel_left m h)
-  shr_z-* (negsuc m) = shr_z_neg (x * suc m) m refl
+  shr_z-* q = grind (arith, ints, mul-div_cancel_left, digits_div)
 
 pub shr_exact : {a b : ℤ} (x : ℕ) → Cong (pos x) a b → a -ℤ b ≡ pos x *ℤ shr_z (a -ℤ b) x
-shr_exact {a} {b} zero c = c.eqn ∙ zero-*ℤ c.quot ∙ sym (zero-*ℤ (shr_z (a -ℤ b) 0))
+shr_exact {a} {b} zero c = omega (arith, ints, c.eqn)
 shr_exact (suc x) c =
     c.eqn ∙ ap (λ q. pos (suc x) *ℤ q) (sym (ap (λ z. shr_z z (suc x)) c.eqn ∙ shr_z-* (suc x) (omega arith) c.quot))

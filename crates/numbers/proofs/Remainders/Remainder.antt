@@ -4,22 +4,21 @@ use mathlib.Core.Bool.{Bool, true, false, not, cond}
 use Prim.Native.Nat.{ℕ, ◌*◌, ◌≤◌, ◌<◌}
 use native.Mathlib.Omega.{arith}
 use lib.Dec.{T, leb, leb→le, nleb→lt}
-use lib.IntN.{ℤ, pos, neg_ℤ, nat_abs, ◌+ℤ◌, ◌-ℤ◌}
+use lib.IntN.{ℤ, pos, nat_abs, ◌+ℤ◌, ◌-ℤ◌}
 use Rattle.numbers.specs.Numbers.{Balanced, Cong, IsRem}
 use Rattle.numbers.specs.Remainder.{residue, rem}
 use Rattle.numbers.proofs.Algebra.RingSolver.{ring, if◌is◌by◌then◌, #◌, ◌⊕◌, ◌⊖◌, ◌⊗◌, ◌≐◌}
-use Rattle.numbers.proofs.Algebra.IntLinear.{integers, parts, minus, sums, scales}
+use Rattle.std.proofs.lemmas.Int.{ints}
 use Rattle.numbers.proofs.Remainders.Congruence.{cong_sym, cong_trans, cong_near}
 use Rattle.numbers.proofs.Remainders.Division.{residue_below, residue_cong}
 
 -- twice a balanced number is at most X in magnitude
 pub balanced_size : {X : ℕ} (v : ℤ) → Balanced X v → 2 * nat_abs v ≤ X
-balanced_size {X} v b = omega (arith, integers, b.above, b.upto, parts v, scales 2 v, minus (pos X))
+balanced_size {X} v b = omega (arith, ints)
 
 pub balanced_unique : {X : ℕ} {a b : ℤ} → Balanced X a → Balanced X b → Cong (pos X) a b → a ≡ b
 balanced_unique {X} {a} {b} p q c =
-    cong_near c
-    (omega (arith, integers, p.above, p.upto, q.above, q.upto, parts (a -ℤ b), sums a (neg_ℤ b), minus b, scales 2 a, scales 2 b, minus (pos X)))
+    cong_near c (omega (arith, ints))
 
 pub rem_unique : {X : ℕ} {v a b : ℤ} → IsRem X v a → IsRem X v b → a ≡ b
 rem_unique p q = balanced_unique p.balanced q.balanced (cong_trans (cong_sym p.congruent) q.congruent)
@@ -37,15 +36,12 @@ rem_is X h v = go (leb (2 * r) X) (leb→le (2 * r) X) (nleb→lt (2 * r) X)
     go : (b : Bool) → (T b → 2 * r ≤ X) → (T (not b) → X < 2 * r) → IsRem X v (cond b (pos r) (pos r -ℤ pos X))
     go true f g =
         record {
-          balanced = record { above = omega (arith, integers, f tt, minus (pos X)); upto = omega (arith, integers, f tt) };
+          balanced = record { above = omega (arith, ints, f tt); upto = omega (arith, ints, f tt) };
           congruent = c;
         }
     go false f g =
         record {
-          balanced = record {
-            above = omega (arith, integers, g tt, scales 2 (pos r -ℤ pos X), sums (pos r) (neg_ℤ (pos X)), minus (pos X));
-            upto = omega (arith, integers, residue_below X h v, scales 2 (pos r -ℤ pos X), sums (pos r) (neg_ℤ (pos X)), minus (pos X));
-          };
+          balanced = record { above = omega (arith, ints, g tt); upto = omega (arith, ints, residue_below X h v) };
           congruent = record {
             quot = c.quot +ℤ pos 1;
             eqn = ring 4 (λ v r x q. if v ⊖ r is x ⊗ q by # 1 then v ⊖ (r ⊖ x) ≐ x ⊗ (q ⊕ # 1)) tt v (pos r) (pos X) c.quot c.eqn;

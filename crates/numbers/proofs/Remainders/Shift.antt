@@ -1,16 +1,19 @@
 -- The balanced remainder by X = 2^e as the code finds it: v - q·X, where q is v + (X/2 - 1) divided by X, rounded down.
-use mathlib.Core.Path.{◌≡◌, sym, ap, ◌∙◌}
-use Prim.Native.Nat.{ℕ, suc, ◌+◌, ◌*◌, ◌-◌, ◌^◌, ◌≤◌, ◌<◌}
-use native.Mathlib.Nat.{pow-suc, mul_comm}
+use mathlib.Core.Path.{◌≡◌, refl}
+use Prim.Native.Nat.{ℕ, ◌+◌, ◌*◌, ◌-◌, ◌^◌, ◌≤◌, ◌<◌}
+use native.Mathlib.Nat.{lt_of_le_of_lt}
 use native.Mathlib.Omega.{arith}
-use lib.IntN.{ℤ, pos, neg_ℤ, nat_abs, ◌+ℤ◌, ◌-ℤ◌, ◌*ℤ◌}
-use lib.Signed.{shr_z}
+use lib.IntN.{ℤ, pos, nat_abs, ◌+ℤ◌, ◌-ℤ◌, ◌*ℤ◌}
+use lib.Signed.{shr_z, mag_shr}
 use lib.Pow.{pow_pos, pow_mono}
+use mir.Syntax.{w64}
+use mir.Val.{SFits}
 use Rattle.numbers.specs.Numbers.{Balanced, IsRem}
 use Rattle.numbers.specs.Remainder.{residue}
 use Rattle.numbers.proofs.Algebra.RingSolver.{ring, if◌is◌by◌then◌, #◌, ◌⊕◌, ◌⊖◌, ◌⊗◌, ◌≐◌}
-use Rattle.numbers.proofs.Algebra.IntLinear.{integers, parts, minus, sums, scales}
-use Rattle.numbers.proofs.Algebra.IntOrder.{nat_abs_sub}
+use Rattle.std.proofs.lemmas.Grind.{common_steps}
+use Rattle.std.proofs.lemmas.Int.{ints, fits_signed_from_abs}
+use Rattle.numbers.proofs.Machine.{rd, rd_is}
 use Rattle.numbers.proofs.Remainders.Division.{residue_below, floor}
 use Rattle.numbers.proofs.Remainders.Remainder.{balanced_size}
 
@@ -22,17 +25,12 @@ abbrev pub quo : ℤ → ℕ → ℤ
 quo v e = shr_z (v +ℤ off e) (2 ^ e)
 
 pow_half : (e : ℕ) → 1 ≤ e → 2 ^ e ≡ 2 * 2 ^ (e - 1)
-pow_half e h =
-    let q : suc (e - 1) ≡ e = omega arith in
-    ap (λ (k : ℕ). 2 ^ k) (sym q) ∙ pow-suc 2 (e - 1) ∙ mul_comm (2 ^ (e - 1)) 2
+pow_half e h = grind (arith, common_steps)
 
 -- a number from 1 - X/2 to X/2 is balanced
 half_balanced : (X h s : ℕ) → X ≡ 2 * h → s < X → Balanced X (pos s +ℤ pos 1 -ℤ pos h)
 half_balanced X h s e l =
-    record {
-      above = omega (arith, integers, minus (pos X), scales 2 (pos s +ℤ pos 1 -ℤ pos h), sums (pos s +ℤ pos 1) (neg_ℤ (pos h)), minus (pos h));
-      upto = omega (arith, integers, scales 2 (pos s +ℤ pos 1 -ℤ pos h), sums (pos s +ℤ pos 1) (neg_ℤ (pos h)), minus (pos h));
-    }
+    record { above = omega (arith, ints); upto = omega (arith, ints) }
 
 module _ (v : ℤ) (e : ℕ) where
   pub rem_pow_is : 1 ≤ e → IsRem (2 ^ e) v (v -ℤ quo v e *ℤ pos (2 ^ e))
@@ -61,9 +59,30 @@ module _ (e : ℕ) (upto : e ≤ 32) where
   pub off_size : nat_abs (off e) ≤ 2 ^ 33
   off_size =
       let h : 2 ^ (e - 1) ≤ 2 ^ 32 = pow_mono {i = e - 1} {j = 32} (omega arith) in
-      omega (arith, nat_abs_sub (pos (2 ^ (e - 1))) (pos 1))
+      omega (arith, ints)
 
   pub back_size : (v : ℤ) → 1 ≤ e → nat_abs (quo v e *ℤ pos (2 ^ e)) ≤ nat_abs v + 2 ^ 32
   back_size v l =
-      let q = quo v e *ℤ pos (2 ^ e) in
-      omega (arith, rem_pow_size v e l, pow_32, parts v, parts q, parts (v -ℤ q), sums v (neg_ℤ q), minus q)
+      omega (arith, ints, rem_pow_size v e l, pow_32)
+
+-- and each fits a word
+module _ (v : ℤ) (e : ℕ) (range : (1 ≤ e) × (e ≤ 32)) (fits : SFits w64 v) (room : nat_abs v + 2 ^ 40 < 2 ^ 63) where
+  off_fits : SFits w64 (off e)
+  off_fits = fits_signed_from_abs w64 (off e) (omega (arith, off_size e range.1))
+
+  near_fits : SFits w64 (v +ℤ off e)
+  near_fits = fits_signed_from_abs w64 (v +ℤ off e) (omega (arith, ints, off_size e range.1))
+
+  quo_fits : SFits w64 (quo v e)
+  quo_fits = record { sfits = lt_of_le_of_lt (mag_shr (v +ℤ off e) (2 ^ e)) near_fits.sfits }
+
+  pub back_fits : SFits w64 (quo v e *ℤ pos (2 ^ e))
+  back_fits = fits_signed_from_abs w64 (quo v e *ℤ pos (2 ^ e)) (omega (arith, back_size e range.1 v range.0))
+
+  pub rest_fits : SFits w64 (v -ℤ quo v e *ℤ pos (2 ^ e))
+  rest_fits = fits_signed_from_abs w64 (v -ℤ quo v e *ℤ pos (2 ^ e)) (omega (arith, rem_pow_size v e range.0, pow_32 e range.1))
+
+  -- the multiple that the code takes away, as it is read back of h = 2^(e - 1) and x = 2^e
+  pub reads : (h x : ℤ) → rd h ≡ pos (2 ^ (e - 1)) → rd x ≡ pos (2 ^ e)
+      → rd (shr_z (rd (rd v +ℤ rd (rd h -ℤ pos 1))) (2 ^ e)) *ℤ rd x ≡ quo v e *ℤ pos (2 ^ e)
+  reads h x a b = simp (a, b, rd_is fits, rd_is off_fits, rd_is near_fits, rd_is quo_fits) refl
