@@ -1,4 +1,3 @@
 pub mod Matrix
 pub mod Terms
 pub mod MatrixSolver
-pub mod Rows

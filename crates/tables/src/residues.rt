@@ -2,78 +2,55 @@
 ghost use Rattle.std.specs.Prelude.{ℕ, ◌+◌, ◌*◌, ◌%◌, ◌^◌, ◌≤◌, ◌<◌, length, get_or, pos};
 ghost use Rattle.numbers.specs.Remainder.{residue};
 ghost use Rattle.tables.specs.Buffer.{Wrote};
-ghost use Rattle.tables.specs.Residues.{row_times, Takes, Folds};
+ghost use Rattle.tables.specs.Residues.{row_times, Folds};
 
-// The residues of m numbers from place p on.
-pub fn take(m: usize, a: &[i64], p: usize, t: &mut [u32])
-    requires { Takes m a.now p t.old }
-    ensures { Wrote 0 (λ (q : ℕ). residue (2 ^ 32) (get_or a.now (p + q) (pos 0))) 0 m t.old t.new }
+// The residues of the numbers of a, to the front of t.
+pub fn take(a: &[i64], t: &mut [u32])
+    requires { length a.now ≤ length t.old }
+    ensures { Wrote 0 (λ (q : ℕ). residue (2 ^ 32) (get_or a.now q (pos 0))) 0 (length a.now) t.old t.new }
 {
-    let mut q: usize = 0;
-    while q < m {
-        t[q] = numbers::residue(a[p + q]);
-        q += 1;
+    for (q, a) in a.iter().enumerate() {
+        t[q] = numbers::residue(*a);
     }
 }
 
-// The product of the row x and the table y, in z, which is zero before.
-pub fn fold_rows(n: usize, x: &[u32], y: &[u32], z: &mut [u32])
-    requires { Folds n x.now y.now z.old }
-    ensures { Wrote 0 (row_times (2 ^ 32) n x.now y.now n) 0 n z.old z.new }
+// The product of the row x and the table y, in z, which is zero before; the order is the length of z.
+pub fn fold_rows(x: &[u32], y: &[u32], z: &mut [u32])
+    requires { Folds (length z.old) x.now y.now z.old }
+    ensures { Wrote 0 (row_times (2 ^ 32) (length z.old) x.now y.now (length z.old)) 0 (length z.old) z.old z.new }
 {
-    let mut k: usize = 0;
-    while k < n {
-        fold_row(n, x[k], y, k * n, z, 0);
-        k += 1;
+    let n = z.len();
+    for k in 0..n {
+        fold_row(x[k], &y[k * n..k * n + n], z);
     }
 }
 
-// The n residues of z, which are below 2^32, from place o of the buffer on.
-pub fn widen(n: usize, z: &[u32], buf: &mut [i64], o: usize)
-    requires { (n ≤ length z.now) × (o + n ≤ length buf.old) }
-    ensures { (Wrote (pos 0) (λ (j : ℕ). pos (get_or z.now j 0)) o n buf.old buf.new) × ((j : ℕ) → j < n → get_or z.now j 0 < 2 ^ 32) }
+// The residues of z, which are below 2^32, to the front of out.
+pub fn widen(z: &[u32], out: &mut [i64])
+    requires { length z.now ≤ length out.old }
+    ensures wrote { Wrote (pos 0) (λ (j : ℕ). pos (get_or z.now j 0)) 0 (length z.now) out.old out.new }
+    ensures low { (j : ℕ) → j < length z.now → get_or z.now j 0 < 2 ^ 32 }
 {
-    let mut j: usize = 0;
-    while j < n {
-        buf[o + j] = numbers::signed(z[j]);
-        j += 1;
+    for (j, z) in z.iter().enumerate() {
+        out[j] = i64::from(*z);
     }
 }
 
-// A row: the n residues of z from place o on gain x times those of y from place k on.
-pub fn fold_row(n: usize, x: u32, y: &[u32], k: usize, z: &mut [u32], o: usize)
-    requires { (k + n ≤ length y.now) × (o + n ≤ length z.old) }
-    ensures { Wrote 0 (λ (j : ℕ). (get_or z.old (o + j) 0 + x * get_or y.now (k + j) 0) % 2 ^ 32) o n z.old z.new }
+// A row: the residues of z gain x times those of y.
+pub fn fold_row(x: u32, y: &[u32], z: &mut [u32])
+    requires { length z.old ≤ length y.now }
+    ensures { Wrote 0 (λ (j : ℕ). (get_or z.old j 0 + x * get_or y.now j 0) % 2 ^ 32) 0 (length z.old) z.old z.new }
 {
-    let mut j: usize = 0;
-    while j < n {
-        let v = numbers::fold(z[o + j], x, y[k + j]);
-        z[o + j] = v;
-        j += 1;
+    for (j, z) in z.iter_mut().enumerate() {
+        *z = numbers::fold(*z, x, y[j]);
     }
 }
 
-// A row: the n residues of t from place o on, to the front of row.
-pub fn copy_row(n: usize, t: &[u32], o: usize, row: &mut [u32])
-    requires { (o + n ≤ length t.now) × (n ≤ length row.old) }
-    ensures { Wrote 0 (λ (j : ℕ). get_or t.now (o + j) 0) 0 n row.old row.new }
+// A row: the residues of t, times u.
+pub fn scale_row(u: u32, t: &mut [u32])
+    ensures { Wrote 0 (λ (j : ℕ). (0 + u * get_or t.old j 0) % 2 ^ 32) 0 (length t.old) t.old t.new }
 {
-    let mut j: usize = 0;
-    while j < n {
-        row[j] = t[o + j];
-        j += 1;
-    }
-}
-
-// A row: the n residues of t from place o on, times u.
-pub fn scale_row(n: usize, u: u32, t: &mut [u32], o: usize)
-    requires { o + n ≤ length t.old }
-    ensures { Wrote 0 (λ (j : ℕ). (0 + u * get_or t.old (o + j) 0) % 2 ^ 32) o n t.old t.new }
-{
-    let mut j: usize = 0;
-    while j < n {
-        let v = numbers::fold(0, u, t[o + j]);
-        t[o + j] = v;
-        j += 1;
+    for t in t {
+        *t = numbers::fold(0, u, *t);
     }
 }

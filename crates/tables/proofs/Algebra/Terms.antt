@@ -8,12 +8,13 @@ use mathlib.Core.Bool.{Bool, true, false, ◌&&◌}
 use mathlib.Core.List.{List, [], ◌∷◌, ◌++◌}
 use Prim.Native.Nat.{ℕ}
 use lib.Dec.{T, eqb, eqb→eq}
-use lib.IntN.{ℤ, pos, negsuc, ◌+ℤ◌, ◌*ℤ◌, +ℤ_idl, +ℤ_idr, +ℤ_assoc, *ℤ-zero, zero-*ℤ}
-use Rattle.numbers.proofs.Algebra.IntRing.{+ℤ-left_comm, *ℤ-idˡ}
+use lib.IntN.{ℤ, pos, negsuc, ◌+ℤ◌, ◌*ℤ◌, *ℤ-zero}
+use native.Mathlib.Omega.{arith}
+use Rattle.std.proofs.lemmas.Int.{ints}
 use Rattle.numbers.proofs.Algebra.Sum.{δ}
 use Rattle.numbers.proofs.Testing.Tests.{both}
-use Rattle.numbers.proofs.Algebra.Polynomials.{Expr, num, value, Poly, lit, add, mul, norm, is_zero, eval, eval_add, eval_mul, eval_is_zero, sound}
-use Rattle.numbers.proofs.Algebra.RingSolver.{ring, ◌⊕◌, ◌⊖◌, ◌⊗◌, ◌≐◌}
+use Rattle.numbers.proofs.Algebra.Polynomials.{Expr, value, Poly, lit, add, mul, norm, is_zero, eval, eval_add, eval_mul, eval_is_zero, sound}
+use Rattle.numbers.proofs.Algebra.RingSolver.{ring, ◌⊕◌, ◌⊗◌, ◌≐◌}
 use Rattle.tables.specs.Tables.{Matrix, ◌≈⟨◌⟩◌, ◌·⟨◌⟩◌, ◌⊞◌, ◌⊟◌, ◌⊙◌}
 use Rattle.tables.proofs.Algebra.Matrix.{𝟘, ·-assoc, ·-⊞ˡ, ·-⊞ʳ, ·-⊙ˡ, ·-⊙ʳ, ·-𝟘ˡ, ·-𝟘ʳ, ·-idˡ, ·-idʳ, ·-cong}
 
@@ -111,16 +112,13 @@ module _ (n : ℕ) (ρ : ℕ → ℤ) (σ : ℕ → Matrix) where
           ap (λ c. c *ℤ word v i j +ℤ total t i j) (eval_add ρ p q)
           ∙ ring 4 (λ p q v t. (p ⊕ q) ⊗ v ⊕ t ≐ p ⊗ v ⊕ (q ⊗ v ⊕ t)) tt (eval ρ p) (eval ρ q) (word v i j) (total t i j)
           ∙ ap (λ u. eval ρ p *ℤ word u i j +ℤ (eval ρ q *ℤ word v i j +ℤ total t i j)) (sym (e tt))
-      go false e h =
-          ap (λ z. eval ρ q *ℤ word v i j +ℤ z) h ∙ +ℤ-left_comm (eval ρ q *ℤ word v i j) (eval ρ p *ℤ word w i j) (total t i j)
+      go false e h = omega (arith, ints, h)
 
   total_plus : (s t : Terms) (i j : ℕ) → total (plus s t) i j ≡ total s i j +ℤ total t i j
   unfolding total
-  total_plus none t i j = sym (+ℤ_idl (total t i j))
+  total_plus none t i j = omega (arith, ints)
   total_plus (term p w s) t i j =
-      total_insert p w (plus s t) i j
-      ∙ ap (λ z. eval ρ p *ℤ word w i j +ℤ z) (total_plus s t i j)
-      ∙ sym (+ℤ_assoc (eval ρ p *ℤ word w i j) (total s i j) (total t i j))
+      omega (arith, ints, total_insert p w (plus s t) i j, total_plus s t i j)
 
   total_front : (p : Poly) (w : List ℕ) (t : Terms) → total (front p w t) ≈⟨ n ⟩ eval ρ p ⊙ (word w ·⟨ n ⟩ total t)
   unfolding total
@@ -145,7 +143,7 @@ module _ (n : ℕ) (ρ : ℕ → ℤ) (σ : ℕ → Matrix) where
 
   total_one : (w : List ℕ) (i j : ℕ) → total (term (lit (pos 1)) w none) i j ≡ word w i j
   unfolding total eval
-  total_one w i j = +ℤ_idr (pos 1 *ℤ word w i j) ∙ *ℤ-idˡ (word w i j)
+  total_one w i j = omega (arith, ints)
 
   pub total_terms : (a : MExpr) → total (terms a) ≈⟨ n ⟩ meaning n ρ σ a
   unfolding word total eval
@@ -153,12 +151,9 @@ module _ (n : ℕ) (ρ : ℕ → ℤ) (σ : ℕ → Matrix) where
   total_terms 𝟘ᵉ i j h k = refl
   total_terms 𝟙 i j h k = total_one [] i j
   total_terms (a ⊞ᵉ b) i j h k =
-      total_plus (terms a) (terms b) i j ∙ ap₂ (λ x y. x +ℤ y) (total_terms a i j h k) (total_terms b i j h k)
+      omega (arith, ints, total_plus (terms a) (terms b) i j, total_terms a i j h k, total_terms b i j h k)
   total_terms (a ⊟ᵉ b) i j h k =
-      total_plus (terms a) (front (lit (negsuc 0)) [] (terms b)) i j
-      ∙ ap₂ (λ x y. x +ℤ y) (total_terms a i j h k) (total_scale (lit (negsuc 0)) (terms b) i j h k)
-      ∙ ap (λ x. meaning n ρ σ a i j +ℤ negsuc 0 *ℤ x) (total_terms b i j h k)
-      ∙ ring 2 (λ x y. x ⊕ num (negsuc 0) ⊗ y ≐ x ⊖ y) tt (meaning n ρ σ a i j) (meaning n ρ σ b i j)
+      omega (arith, ints, total_plus (terms a) (front (lit (negsuc 0)) [] (terms b)) i j, total_terms a i j h k, total_scale (lit (negsuc 0)) (terms b) i j h k, total_terms b i j h k)
   total_terms (a ·ᵉ b) i j h k = total_times (terms a) (terms b) i j h k ∙ ·-cong n (total_terms a) (total_terms b) i j h k
   total_terms (c ⊙ᵉ a) i j h k = total_scale (norm c) (terms a) i j h k ∙ ap₂ (λ x y. x *ℤ y) (sound ρ c) (total_terms a i j h k)
 
@@ -167,4 +162,4 @@ module _ (n : ℕ) (ρ : ℕ → ℤ) (σ : ℕ → Matrix) where
   total_vanish none u i j = refl
   total_vanish (term p w t) u i j =
       let (z, r) = both (is_zero p) (vanish t) u in
-      ap₂ (λ x y. x *ℤ word w i j +ℤ y) (eval_is_zero ρ p z) (total_vanish t r i j) ∙ +ℤ_idr (pos 0 *ℤ word w i j) ∙ zero-*ℤ (word w i j)
+      rw (eval_is_zero ρ p z) (omega (arith, ints, total_vanish t r i j))

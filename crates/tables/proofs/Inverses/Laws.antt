@@ -2,7 +2,8 @@
 use mathlib.Core.Bool.{Bool, not, ◌&&◌}
 use mathlib.Core.List.{List}
 use Prim.Native.Nat.{ℕ, ◌<◌}
-use lib.Dec.{T, T_not, ltb, ltb→lt}
+use Rattle.std.proofs.Common.{rules}
+use lib.Dec.{T, T_not, ltb}
 use lib.IntN.{ℤ, pos, ◌*ℤ◌}
 use lib.ListN.{get_or}
 use Rattle.numbers.specs.Numbers.{Cong}
@@ -43,8 +44,7 @@ pub refutes_sound : (m n : ℕ) (v : List ℤ) (c : ℕ) (A : Matrix) → T (ref
 refutes_sound m n v c A t =
     let f : ℕ → Bool = λ j. congruent m (sum n (λ k. get_or v k (pos 0) *ℤ A k j)) (pos 0) in
     let g : Bool = congruent m (get_or v c (pos 0)) (pos 0) in
-    let p = both (ltb c n) (not g && all n f) t in
-    let q = both (not g) (all n f) p.1 in
-    no_inverse m n (λ i k. get_or v k (pos 0)) A c (ltb→lt c n p.0)
-    (λ i j h k. congruent_sound m (sum n (λ k. get_or v k (pos 0) *ℤ A k j)) (pos 0) (all_at n f q.1 j k))
-    (λ e. T_not g q.0 (congruent_complete m (get_or v c (pos 0)) (pos 0) e))
+    let p = both (not g) (all n f) (both (ltb c n) (not g && all n f) t).1 in
+    no_inverse m n (λ i k. get_or v k (pos 0)) A c (search rules)
+    (λ i j h k. congruent_sound m (sum n (λ k. get_or v k (pos 0) *ℤ A k j)) (pos 0) (all_at n f p.1 j k))
+    (λ e. T_not g p.0 (congruent_complete m (get_or v c (pos 0)) (pos 0) e))

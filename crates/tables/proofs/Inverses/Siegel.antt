@@ -2,13 +2,13 @@
 -- is not all 0 and has magnitudes at most H, where (s * H + 1) ^ m < (H + 1) ^ n. For there are more ways to choose the unknowns from
 -- 0 to H than there are values of the equations' left sides. So two choices give the same values, and their difference solves.
 -- For m + 1 unknowns, H = s ^ m will do.
-use mathlib.Core.Path.{◌≡◌, refl, sym, ap, ◌∙◌}
+use mathlib.Core.Path.{◌≡◌, refl, ap}
 use Prim.Native.Nat.{ℕ, zero, suc, ◌≤◌, ◌<◌, ◌+◌, ◌*◌, ◌-◌, ◌^◌, zero-le, suc-le-suc}
-use native.Mathlib.Nat.{lt_trans, le_trans, lt_of_le_of_lt, le_refl, le_step, le_of_eq, ne_of_lt, le_of_suc-le-suc, mul_comm, mul-add, mul-suc, suc-mul, mul-mul-mul_comm, mul-le-mul, mul-le-mul_left, sub-le, pow-zero, pow-suc, pow-succ', pow-le-pow_left, one-le-pow}
+use native.Mathlib.Nat.{lt_trans, le_trans, lt_of_le_of_lt, le_refl, le_step, le_of_eq, ne_of_lt, le_of_suc-le-suc, mul_comm, mul-add, mul-suc, suc-mul, mul-le-mul, mul-le-mul_left, pow-succ', pow-le-pow_left, one-le-pow}
 use native.Mathlib.Omega.{arith}
-use lib.IntN.{ℤ, pos, negsuc, neg_ℤ, nat_abs, ◌+ℤ◌, ◌-ℤ◌, ◌*ℤ◌, +ℤ_idl}
-use Rattle.numbers.proofs.Algebra.IntRing.{+ℤ-cancelʳ, eq_of_sub}
-use Rattle.numbers.proofs.Algebra.IntLinear.{parts, minus, sums}
+use lib.IntN.{ℤ, pos, negsuc, nat_abs, ◌+ℤ◌, ◌-ℤ◌, ◌*ℤ◌}
+use Rattle.std.proofs.lemmas.Int.{ints}
+use Rattle.std.proofs.lemmas.Nat.{mul-pow}
 use Rattle.numbers.proofs.Algebra.RingSolver.{ring, if◌is◌by◌then◌, ⊝◌, ◌⊕◌, ◌⊖◌, ◌⊗◌, ◌≐◌}
 use Rattle.numbers.proofs.Algebra.Sum.{sum, sum_cong, sum-+}
 use Rattle.numbers.proofs.Counting.Pigeonhole.{pigeonhole}
@@ -23,8 +23,7 @@ weigh H (negsuc q) d = (H - d) * suc q
 
 weigh_le : (H : ℕ) (c : ℤ) (d : ℕ) → d ≤ H → weigh H c d ≤ H * nat_abs c
 unfolding weigh
-weigh_le H (pos p) d hd = mul-le-mul hd (le_refl p)
-weigh_le H (negsuc q) d hd = mul-le-mul (sub-le H d) (le_refl (suc q))
+weigh_le H c d hd = grind (arith, mul-le-mul)
 
 weigh_sub : (H : ℕ) (c : ℤ) (a b : ℕ) → a ≤ H → b ≤ H → pos (weigh H c a) ≡ (pos a -ℤ pos b) *ℤ c +ℤ pos (weigh H c b)
 unfolding weigh
@@ -34,7 +33,7 @@ weigh_sub H (negsuc q) a b ha hb =
     ring 5 (λ a b k l q. if a ⊕ k is b ⊕ l by q then k ⊗ q ≐ (a ⊖ b) ⊗ (⊝ q) ⊕ l ⊗ q) tt (pos a) (pos b) (pos (H - a)) (pos (H - b)) (pos (suc q)) (ap pos e)
 
 nat_abs_diff : (H a b : ℕ) → a ≤ H → b ≤ H → nat_abs (pos a -ℤ pos b) ≤ H
-nat_abs_diff H a b ha hb = omega (arith, parts (pos a -ℤ pos b), sums (pos a) (neg_ℤ (pos b)), minus (pos b))
+nat_abs_diff H a b ha hb = omega (arith, ints)
 
 -- ---- a left side, as a natural number
 
@@ -55,7 +54,7 @@ total_scale (suc n) b f g h = omega (arith, mul-add b (total n g) (g n), h n (le
 pos_total : (n : ℕ) (f : ℕ → ℕ) → pos (total n f) ≡ sum n (λ i. pos (f i))
 unfolding total sum
 pos_total zero f = refl
-pos_total (suc n) f = ap (λ s. s +ℤ pos (f n)) (pos_total n f)
+pos_total (suc n) f = omega (arith, ints, pos_total n f)
 
 -- ---- the lemma
 
@@ -86,13 +85,10 @@ module _ (n m s H : ℕ) (C : ℕ → ℕ → ℤ) (C-le : (c : ℕ) → c < m �
   diff_solves : (x y c : ℕ) → side x c ≡ side y c → sum n (λ i. (pos (at x i) -ℤ pos (at y i)) *ℤ C i c) ≡ pos 0
   unfolding side
   diff_solves x y c e =
-      +ℤ-cancelʳ _ (pos 0) (pos (side y c))
-      (ap (λ z. sum n (λ i. (pos (at x i) -ℤ pos (at y i)) *ℤ C i c) +ℤ z) (pos_total n _)
-      ∙ sym (sum-+ n _ _)
-      ∙ sum_cong n (λ i l. sym (weigh_sub H (C i c) (at x i) (at y i) (at_le x i) (at_le y i)))
-      ∙ sym (pos_total n _)
-      ∙ ap pos e
-      ∙ sym (+ℤ_idl (pos (side y c))))
+      let weight : ℕ → ℕ → ℕ = λ x i. weigh H (C i c) (at x i) in
+      let diff : ℕ → ℤ = λ i. (pos (at x i) -ℤ pos (at y i)) *ℤ C i c in
+      let split : sum n (λ i. pos (weight x i)) ≡ sum n (λ i. diff i +ℤ pos (weight y i)) = sum_cong n (λ i l. weigh_sub H (C i c) (at x i) (at y i) (at_le x i) (at_le y i)) in
+      omega (arith, ints, pos_total n (weight x), pos_total n (weight y), split, sum-+ n diff (λ i. pos (weight y i)), e)
 
   pub siegel : suc (s * H) ^ m < suc H ^ n → Solution n m H C
   unfolding at
@@ -105,17 +101,13 @@ module _ (n m s H : ℕ) (C : ℕ → ℕ → ℤ) (C-le : (c : ℕ) → c < m �
         nonzero = λ z.
             ne_of_lt l
             (digit_inj (suc H) n x y (omega arith) (lt_trans l k) k
-            (λ i l. ap nat_abs (eq_of_sub (pos (at x i)) (pos (at y i)) (z i l))));
+            (λ i l. omega (arith, ints, z i l)));
       }
 
 -- ---- one equation fewer than unknowns
 
-pow_mul : (a b m : ℕ) → (a * b) ^ m ≡ a ^ m * b ^ m
-pow_mul a b zero = simp pow-zero
-pow_mul a b (suc m) = rw (pow-suc (a * b) m, pow-suc a m, pow-suc b m, pow_mul a b m) (mul-mul-mul_comm (a ^ m) (b ^ m) a b)
-
 pub few_values : (s m : ℕ) → 0 < s → suc (s * s ^ m) ^ m < suc (s ^ m) ^ suc m
 few_values s m h =
     lt_of_le_of_lt
-    (le_trans (pow-le-pow_left {m = s * suc (s ^ m)} (omega (arith, mul-suc s (s ^ m))) m) (le_of_eq (pow_mul s (suc (s ^ m)) m)))
+    (le_trans (pow-le-pow_left {m = s * suc (s ^ m)} (omega (arith, mul-suc s (s ^ m))) m) (le_of_eq (mul-pow s (suc (s ^ m)) m)))
     (omega (arith, pow-succ' (suc (s ^ m)) m, suc-mul (s ^ m) (suc (s ^ m) ^ m), one-le-pow m (suc (s ^ m)) (omega arith)))

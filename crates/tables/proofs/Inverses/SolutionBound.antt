@@ -1,17 +1,17 @@
 -- A whole solution is small: where A·x = b at order n, A has an inverse modulo some p from 2 up, and the entries of A and of b have magnitudes at most
 -- h and H, those of x have at most (n·h + H)^n. No determinant is used. The n equations A·z = t·b in the n + 1 unknowns z and t have a small solution
 -- that is not all 0 (Siegel). Then A·z = A·(t·x), so z = t·x, t is not 0, and x is no larger than z.
-use mathlib.Core.Path.{◌≡◌, refl, sym, ap, ◌∙◌}
+use mathlib.Core.Path.{◌≡◌, sym, ap, ◌∙◌}
 use mathlib.Core.Logic.{◌≢◌, ⊎_elim}
 use mathlib.Core.Bool.{cond}
 use Prim.Native.Nat.{ℕ, suc, ◌≤◌, ◌<◌, ◌+◌, ◌*◌, ◌^◌}
 use native.Mathlib.Nat.{eq-or-lt_of_le, le_of_suc-le-suc, le_step}
 use native.Mathlib.Omega.{arith}
-use borrow.Author.Tests.{eq-eqb, ne_eqb}
 use lib.Dec.{eqb}
 use lib.IntN.{ℤ, pos, neg_ℤ, nat_abs, ◌+ℤ◌, ◌-ℤ◌, ◌*ℤ◌, *ℤ_comm, zero-*ℤ}
 use Rattle.numbers.proofs.Algebra.IntOrder.{multiple_le}
-use Rattle.numbers.proofs.Algebra.IntRing.{eq_of_sub, nat_abs_negℤ}
+use Rattle.std.proofs.lemmas.Bool.Decides.{nat_tests}
+use Rattle.std.proofs.lemmas.Int.{ints}
 use Rattle.numbers.proofs.Algebra.RingSolver.{ring, if◌is◌by◌then◌, #◌, ⊝◌, ◌⊕◌, ◌⊗◌, ◌≐◌}
 use Rattle.numbers.proofs.Algebra.Sum.{sum, sum_cong}
 use Rattle.tables.specs.Tables.{Matrix, Below, HasInverseMod}
@@ -24,10 +24,10 @@ abbrev last : ℕ → (ℕ → ℤ) → ℤ → ℕ → ℤ
 last n f v i = cond (eqb i n) v (f i)
 
 last_below : (n : ℕ) (f : ℕ → ℤ) (v : ℤ) (i : ℕ) → i < n → last n f v i ≡ f i
-last_below n f v i h = ap (λ c. cond c v (f i)) (ne_eqb i n (λ e. omega arith))
+last_below n f v i h = grind (arith, nat_tests)
 
 last_at : (n : ℕ) (f : ℕ → ℤ) (v : ℤ) → last n f v n ≡ v
-last_at n f v = ap (λ c. cond c v (f n)) (eq-eqb n n refl)
+last_at n f v = grind (arith, nat_tests)
 
 module _ (p n h H : ℕ) (A : Matrix) (b x : ℕ → ℤ) (two : 2 ≤ p) (odd : HasInverseMod n p A) (some : 0 < H) (A-le : Below n (λ i j. nat_abs (A i j) ≤ h)) (b-le : (i : ℕ) → i < n → nat_abs (b i) ≤ H) (solves : (i : ℕ) → i < n → sum n (λ k. A i k *ℤ x k) ≡ b i) where
   -- equation c has row c of A, and beside it -b
@@ -39,9 +39,9 @@ module _ (p n h H : ℕ) (A : Matrix) (b x : ℕ → ℤ) (two : 2 ≤ p) (odd :
   row_le c l =
       omega (
         arith,
+        ints,
         total_le n h (λ i. nat_abs (row i c)) (λ i k. rw (last_below n (A c) (neg_ℤ (b c)) i k) (A-le c i l k)),
         ap nat_abs (last_at n (A c) (neg_ℤ (b c))),
-        nat_abs_negℤ (b c),
         b-le c l,
       )
 
@@ -61,10 +61,10 @@ module _ (p n h H : ℕ) (A : Matrix) (b x : ℕ → ℤ) (two : 2 ≤ p) (odd :
 
   z_is : (k : ℕ) → k < n → z k ≡ z n *ℤ x k
   z_is k l =
-      eq_of_sub (z k) (z n *ℤ x k)
-      (kernel p n A (λ i j. z i -ℤ z n *ℤ x i) two odd
+      let zero : z k -ℤ z n *ℤ x k ≡ pos 0 = kernel p n A (λ i j. z i -ℤ z n *ℤ x i) two odd
       (matrix n 1 4 (λ t A Z X F. given A ·ᵉ Z is t ⊙ᵉ F by 𝟙 and 𝟙 then given A ·ᵉ X is F by (⊝ t) ⊙ᵉ 𝟙 and 𝟙 then A ·ᵉ (Z ⊟ᵉ t ⊙ᵉ X) ≑ 𝟘ᵉ) tt
-      (z n) A (λ i j. z i) (λ i j. x i) (λ i j. b i) (λ i j c d. z_solves i c) (λ i j c d. solves i c)) k k l l)
+      (z n) A (λ i j. z i) (λ i j. x i) (λ i j. b i) (λ i j c d. z_solves i c) (λ i j c d. solves i c)) k k l l in
+      omega (arith, ints, zero)
 
   z_nonzero : z n ≢ pos 0
   unfolding z
