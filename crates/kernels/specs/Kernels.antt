@@ -6,6 +6,7 @@
 --   Remain n X L p q o    block o is to be the balanced remainder by X of the product of blocks p and q
 --   shrunk n X A L m s    block s, less A times block m, divided by X and rounded down
 --   Shrink n X A L m s    block s is to be that
+--   ShrinkAt n X A L m s i j   its entry (i, j) is to be given
 --   Balance n X L o       block o is to be its balanced remainder by X
 --   Extend n X L c d      X times block d is to be added to block c
 --   residue_product X n P y   the product of a table P and a table of residues y, in residues modulo X
@@ -72,6 +73,12 @@ pub record Shrink (n X : ℕ) (A L : List ℤ) (m s : ℕ) : Type 0 where
   pub target : Has n L s
   pub apart : m ≢ s
   pub exact : Exact n (entries n A) (block n L m)
+
+pub record ShrinkAt (n X : ℕ) (A L : List ℤ) (m s i j : ℕ) : Type 0 where
+  pub dot : Dot n A 0 L (m * (n * n)) i j
+  pub upto : X ≤ 2 ^ 32
+  pub target : Has n L s
+  pub room : nat_abs (block n L s i j -ℤ (entries n A ·⟨ n ⟩ block n L m) i j) < 2 ^ 63
 
 pub record Balance (n X : ℕ) (L : List ℤ) (o : ℕ) : Type 0 where
   pub order : IsOrder n

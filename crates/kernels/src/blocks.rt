@@ -1,40 +1,24 @@
-// The kernels: work on tables of order n in one buffer, each named by its block number.
-ghost use Rattle.std.specs.Prelude.{◌≡◌, true, false, ℕ, ◌+◌, ◌*◌, ◌^◌, ◌≤◌, ◌<◌, pos, ◌+ℤ◌, ◌*ℤ◌, length, get_or};
+// The kernels: work on tables of order n in one buffer, each named by its block number, as in the rules (docs/DECISIONS.md, 22).
+ghost use Rattle.std.specs.Prelude.{◌≡◌, ℕ, ◌+◌, ◌*◌, ◌^◌, ◌≤◌, ◌<◌, pos, ◌+ℤ◌, ◌*ℤ◌, length, get_or};
 ghost use Rattle.numbers.specs.Numbers.{δ};
 ghost use Rattle.numbers.specs.Limits.{IsOrder};
 ghost use Rattle.numbers.specs.Remainder.{rem};
 ghost use Rattle.numbers.specs.Says.{Tells};
 ghost use Rattle.tables.specs.Tables.{◌·⟨◌⟩◌, Zero, block, table_at};
-ghost use Rattle.tables.specs.Buffer.{Low, RowLow, Has, BlockPut, RowPut};
+ghost use Rattle.tables.specs.Buffer.{Low, Has, BlockPut};
 ghost use Rattle.kernels.specs.Kernels.{Dot, Product, Remain, shrunk, Shrink, Balance, Extend};
+
+use super::{block_residues, entries};
 
 // Block o becomes the product of blocks p and q.
 pub fn product(n: usize, buf: &mut [i64], p: usize, q: usize, o: usize)
     requires { Product n buf.old p q o }
     ensures { BlockPut n (block n buf.old p ·⟨ n ⟩ block n buf.old q) o buf.old buf.new }
 {
-    let mut i: usize = 0;
-    while i < n {
-        product_row(n, buf, p, q, o, i);
-        i += 1;
-    }
-}
-
-// Row i of it.
-fn product_row(n: usize, buf: &mut [i64], p: usize, q: usize, o: usize, i: usize)
-    requires { Product n buf.old p q o × (i < n) }
-    ensures { RowPut n (block n buf.old p ·⟨ n ⟩ block n buf.old q) o i buf.old buf.new }
-{
     let m = n * n;
     let pa = p * m;
     let qa = q * m;
-    let at = o * m + i * n;
-    let mut j: usize = 0;
-    while j < n {
-        let v = dot(n, buf, pa, buf, qa, i, j);
-        buf[at + j] = v;
-        j += 1;
-    }
+    entries::fill(n, n, buf, o, |b, i, j| dot(n, b, pa, b, qa, i, j));
 }
 
 // Block o becomes the balanced remainder by 2^e of the product of blocks p and q.
@@ -44,8 +28,8 @@ pub fn remain(n: usize, e: u32, buf: &mut [i64], p: usize, q: usize, o: usize)
 {
     let mut y = [0u32; 1024];
     let m = n * n;
-    tables::residues::take(m, buf, q * m, &mut y);
-    super::block_residues::product(n, &y, buf, p, o);
+    tables::residues::take(&buf[q * m..q * m + m], &mut y);
+    block_residues::product(n, &y, buf, p, o);
     balance(n, e, buf, o);
 }
 
@@ -54,28 +38,8 @@ pub fn shrink(n: usize, e: u32, a: &[i64], buf: &mut [i64], m: usize, s: usize)
     requires { Shrink n (2 ^ e) a.now buf.old m s × Low n (2 ^ 62) (block n buf.old s) }
     ensures { BlockPut n (shrunk n (2 ^ e) a.now buf.old m s) s buf.old buf.new }
 {
-    let mut i: usize = 0;
-    while i < n {
-        shrink_row(n, e, a, buf, m, s, i);
-        i += 1;
-    }
-}
-
-// Row i of it.
-fn shrink_row(n: usize, e: u32, a: &[i64], buf: &mut [i64], m: usize, s: usize, i: usize)
-    requires { Shrink n (2 ^ e) a.now buf.old m s × ((i < n) × RowLow n (2 ^ 62) (block n buf.old s) i) }
-    ensures { RowPut n (shrunk n (2 ^ e) a.now buf.old m s) s i buf.old buf.new }
-{
-    let size = n * n;
-    let ma = m * size;
-    let at = s * size + i * n;
-    let mut j: usize = 0;
-    while j < n {
-        let d = dot(n, a, 0, buf, ma, i, j);
-        let v = numbers::shr(numbers::sub(buf[at + j], d), e);
-        buf[at + j] = v;
-        j += 1;
-    }
+    let entry = |b: &[i64], i, j| entries::shrunk(n, e, a, b, m, s, i, j);
+    entries::fill(n, n, buf, s, entry);
 }
 
 // Block o becomes its balanced remainder by 2^e.
@@ -83,14 +47,9 @@ pub fn balance(n: usize, e: u32, buf: &mut [i64], o: usize)
     requires { Balance n (2 ^ e) buf.old o }
     ensures { BlockPut n (λ (i j : ℕ). rem (2 ^ e) (block n buf.old o i j)) o buf.old buf.new }
 {
-    let m = n * n;
-    let oa = o * m;
-    let mut t: usize = 0;
-    while t < m {
-        let v = numbers::rem_pow(buf[oa + t], e);
-        buf[oa + t] = v;
-        t += 1;
-    }
+    let oa = o * (n * n);
+    let entry = |b: &[i64], i, j| numbers::rem_pow(cell(n, b, oa, i, j), e);
+    entries::fill(n, n, buf, o, entry);
 }
 
 // 2^e times block d is added to block c.
@@ -102,12 +61,8 @@ pub fn extend(n: usize, e: u32, buf: &mut [i64], c: usize, d: usize)
     let ca = c * m;
     let da = d * m;
     let x = numbers::pow2(e);
-    let mut t: usize = 0;
-    while t < m {
-        let v = numbers::mac(buf[ca + t], x, buf[da + t]);
-        buf[ca + t] = v;
-        t += 1;
-    }
+    let entry = |b: &[i64], i, j| cell(n, b, ca, i, j) + x * cell(n, b, da, i, j);
+    entries::fill(n, n, buf, c, entry);
 }
 
 // Block o becomes the identity.
@@ -115,24 +70,7 @@ pub fn identity(n: usize, buf: &mut [i64], o: usize)
     requires { (IsOrder n) × (Has n buf.old o) }
     ensures { BlockPut n δ o buf.old buf.new }
 {
-    let mut i: usize = 0;
-    while i < n {
-        identity_row(n, buf, o, i);
-        i += 1;
-    }
-}
-
-// Row i of it.
-fn identity_row(n: usize, buf: &mut [i64], o: usize, i: usize)
-    requires { (IsOrder n) × ((Has n buf.old o) × (i < n)) }
-    ensures { RowPut n δ o i buf.old buf.new }
-{
-    let at = o * (n * n) + i * n;
-    let mut j: usize = 0;
-    while j < n {
-        buf[at + j] = unit(i, j);
-        j += 1;
-    }
+    entries::fill(n, n, buf, o, |_, i, j| unit(i, j));
 }
 
 // Whether block o is all zero.
@@ -140,16 +78,7 @@ pub fn vanishes(n: usize, buf: &[i64], o: usize) -> bool
     requires { (IsOrder n) × (Has n buf.now o) }
     ensures { Tells (Zero n (block n buf.now o)) result }
 {
-    let m = n * n;
-    let oa = o * m;
-    let mut t: usize = 0;
-    while t < m {
-        if buf[oa + t] != 0 {
-            return false;
-        }
-        t += 1;
-    }
-    true
+    entries::all(n, n, buf, o, |v| v == 0)
 }
 
 // Whether every entry of block o has magnitude at most c.
@@ -157,28 +86,17 @@ pub fn within(n: usize, buf: &[i64], o: usize, c: u64) -> bool
     requires { (IsOrder n) × (Has n buf.now o) }
     ensures { Tells (Low n c (block n buf.now o)) result }
 {
-    let m = n * n;
-    let oa = o * m;
-    let mut t: usize = 0;
-    while t < m {
-        if c < numbers::mag(buf[oa + t]) {
-            return false;
-        }
-        t += 1;
-    }
-    true
+    entries::all(n, n, buf, o, |v| v.unsigned_abs() <= c)
 }
 
-// Entry (i, j) of the product of the tables at places p and q.
+// Entry (i, j) of the product of the tables at places p and q. (A for and not `sum`: each sum on the way has to fit.)
 pub fn dot(n: usize, a: &[i64], p: usize, b: &[i64], q: usize, i: usize, j: usize) -> i64
     requires { Dot n a.now p b.now q i j }
     ensures { result ≡ (table_at n a.now p ·⟨ n ⟩ table_at n b.now q) i j }
 {
     let mut s: i64 = 0;
-    let mut k: usize = 0;
-    while k < n {
-        s = numbers::mac(s, cell(n, a, p, i, k), cell(n, b, q, k, j));
-        k += 1;
+    for k in 0..n {
+        s += cell(n, a, p, i, k) * cell(n, b, q, k, j);
     }
     s
 }
@@ -195,5 +113,5 @@ pub fn cell(n: usize, a: &[i64], p: usize, i: usize, k: usize) -> i64
 pub fn unit(i: usize, j: usize) -> i64
     ensures { result ≡ δ i j }
 {
-    if i == j { 1 } else { 0 }
+    i64::from(i == j)
 }

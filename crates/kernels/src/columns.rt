@@ -1,5 +1,5 @@
 // Work on the first column of blocks alone: that of a residue is known without the others.
-ghost use Rattle.std.specs.Prelude.{ℕ, ◌*◌, ◌^◌, ◌<◌};
+ghost use Rattle.std.specs.Prelude.{ℕ, ◌^◌};
 ghost use Rattle.numbers.specs.Limits.{IsOrder};
 ghost use Rattle.numbers.specs.Remainder.{rem};
 ghost use Rattle.numbers.specs.Says.{Tells};
@@ -8,19 +8,15 @@ ghost use Rattle.tables.specs.Buffer.{Has};
 ghost use Rattle.kernels.specs.Kernels.{shrunk};
 ghost use Rattle.kernels.specs.Columns.{ToCopy, ToRemain, ToShrink, ColumnPut, ColumnZero};
 
+use super::{blocks, entries};
+
 // The first column of block p, into that of block o.
 pub fn copy(n: usize, buf: &mut [i64], p: usize, o: usize)
     requires { ToCopy n buf.old p o }
     ensures { ColumnPut n (λ (i : ℕ). block n buf.old p i 0) o buf.old buf.new }
 {
-    let m = n * n;
-    let pa = p * m;
-    let oa = o * m;
-    let mut i: usize = 0;
-    while i < n {
-        buf[oa + i * n] = buf[pa + i * n];
-        i += 1;
-    }
+    let pa = p * (n * n);
+    entries::fill(n, 1, buf, o, |b, i, j| blocks::cell(n, b, pa, i, j));
 }
 
 // The first column of block o becomes the balanced remainder by 2^e of block p times the first column of block q.
@@ -31,13 +27,8 @@ pub fn remain(n: usize, e: u32, buf: &mut [i64], p: usize, q: usize, o: usize)
     let m = n * n;
     let pa = p * m;
     let qa = q * m;
-    let oa = o * m;
-    let mut i: usize = 0;
-    while i < n {
-        let d = super::blocks::dot(n, buf, pa, buf, qa, i, 0);
-        buf[oa + i * n] = numbers::rem_pow(d, e);
-        i += 1;
-    }
+    let entry = |b: &[i64], i, j| numbers::rem_pow(blocks::dot(n, b, pa, b, qa, i, j), e);
+    entries::fill(n, 1, buf, o, entry);
 }
 
 // The first column of block s becomes itself less a times that of block m, divided by 2^e and rounded down.
@@ -45,16 +36,8 @@ pub fn shrink(n: usize, e: u32, a: &[i64], buf: &mut [i64], m: usize, s: usize)
     requires { ToShrink n (2 ^ e) a.now buf.old m s }
     ensures { ColumnPut n (λ (i : ℕ). shrunk n (2 ^ e) a.now buf.old m s i 0) s buf.old buf.new }
 {
-    let size = n * n;
-    let ma = m * size;
-    let sa = s * size;
-    let mut i: usize = 0;
-    while i < n {
-        let d = super::blocks::dot(n, a, 0, buf, ma, i, 0);
-        let v = numbers::shr(numbers::sub(buf[sa + i * n], d), e);
-        buf[sa + i * n] = v;
-        i += 1;
-    }
+    let entry = |b: &[i64], i, j| entries::shrunk(n, e, a, b, m, s, i, j);
+    entries::fill(n, 1, buf, s, entry);
 }
 
 // Whether the first column of block o is all zero.
@@ -62,13 +45,5 @@ pub fn vanishes(n: usize, buf: &[i64], o: usize) -> bool
     requires { (IsOrder n) × (Has n buf.now o) }
     ensures { Tells (ColumnZero n (block n buf.now o)) result }
 {
-    let oa = o * (n * n);
-    let mut i: usize = 0;
-    while i < n {
-        if buf[oa + i * n] != 0 {
-            return false;
-        }
-        i += 1;
-    }
-    true
+    entries::all(n, 1, buf, o, |v| v == 0)
 }

@@ -4,3 +4,4 @@
 pub mod block_residues;
 pub mod blocks;
 pub mod columns;
+mod entries;

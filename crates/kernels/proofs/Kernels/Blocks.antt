@@ -1,26 +1,29 @@
--- What the kernels of blocks need and give at each place: bounds, sums of products, a division, a reduction, an extension, a test for zero.
+-- What the kernels of blocks need and give at each place: bounds, sums of products, a division, a reduction, an extension.
+use mathlib.Core.Logic.{◌≢◌}
 use mathlib.Core.Path.{◌≡◌, refl, sym, ap, ap₂, ◌∙◌, subst}
 use mathlib.Core.List.{List}
-use Prim.Native.Nat.{ℕ, ◌+◌, ◌*◌, ◌/◌, ◌%◌, ◌^◌, ◌≤◌, ◌<◌}
-use native.Mathlib.Nat.{mul-le-mul, mul-le-mul_right, suc-mul, mod-lt, div-lt_iff_lt-mul}
+use Prim.Native.Nat.{ℕ, ◌+◌, ◌*◌, ◌^◌, ◌≤◌, ◌<◌}
+use native.Mathlib.Nat.{mul-le-mul, mul-le-mul_right, suc-mul, lt_of_le_of_lt}
 use native.Mathlib.Omega.{arith}
-use lib.Arith.{digits_lt}
 use lib.IntN.{ℤ, pos, nat_abs, ◌+ℤ◌, ◌-ℤ◌, ◌*ℤ◌}
 use lib.ListN.{get_or}
-use lib.Signed.{shr_z}
+use lib.Signed.{shr_z, mag, mag_shr}
+use mir.Syntax.{w64}
+use mir.Val.{SFits}
+use Rattle.numbers.proofs.Algebra.IntRing.{nat_abs-*ℤ}
+use Rattle.std.proofs.lemmas.Int.{ints, fits_signed_from_abs}
 use Rattle.numbers.proofs.Algebra.IntOrder.{*ℤ-bound, nat_abs_sub}
+use Rattle.numbers.proofs.Machine.{rd, rd_is, rd_ok, rd_got}
 use Rattle.numbers.specs.Numbers.{IsRem}
 use Rattle.numbers.specs.Remainder.{rem}
 use Rattle.numbers.proofs.Remainders.Remainder.{rem_is, rem_unique}
 use Rattle.numbers.proofs.Algebra.Sum.{sum, sum_one, sum_bound}
-use Rattle.tables.specs.Tables.{Matrix, ◌≈⟨◌⟩◌, ◌·⟨◌⟩◌, Zero, block, entries, table_at}
-use Rattle.numbers.specs.Limits.{IsOrder}
-use Rattle.tables.specs.Buffer.{RowLow}
-use Rattle.kernels.specs.Kernels.{Exact, ExactAt, Dot, Product, shrunk, Shrink, Extend}
+use Rattle.tables.specs.Tables.{Matrix, ◌≈⟨◌⟩◌, ◌·⟨◌⟩◌, block, entries, table_at}
+use Rattle.tables.specs.Buffer.{Low, Has}
+use Rattle.kernels.specs.Kernels.{Exact, ExactAt, Dot, Product, shrunk, Shrink, ShrinkAt, Balance}
 use Rattle.tables.proofs.Algebra.Matrix.{≈-sym, ·-cong, ·-bound}
-use Rattle.tables.proofs.Buffers.Places.{flat, flat_block}
 use Rattle.tables.proofs.Buffers.Bounds.{low-≈}
-use Rattle.kernels.proofs.Kernels.Rows.{Beside}
+use Rattle.kernels.specs.Entries.{Reached}
 
 -- ---- bounds
 
@@ -30,109 +33,106 @@ exact-≈ e f x = record { c = x.c; d = x.d; left = low-≈ e x.left; right = lo
 pub exact_at : {n : ℕ} {A B : Matrix} {i j : ℕ} → Exact n A B → i < n → j < n → ExactAt n A B i j
 exact_at {i = i} {j = j} x h k = record { c = x.c; d = x.d; left = λ l m. x.left.low i l h m; right = λ l m. x.right.low l j m k; room = x.room }
 
+-- a sum that gains a product, where their magnitudes leave room: both fit, and are read back as they are
+module _ (s x y : ℤ) (room : nat_abs s + nat_abs x * nat_abs y < 2 ^ 63) where
+  gain_fits : SFits w64 (x *ℤ y)
+  gain_fits = fits_signed_from_abs w64 (x *ℤ y) (omega (arith, room, nat_abs-*ℤ x y))
+
+  gained_fits : SFits w64 (s +ℤ x *ℤ y)
+  gained_fits = fits_signed_from_abs w64 (s +ℤ x *ℤ y) (omega (arith, ints, room, nat_abs-*ℤ x y))
+
+  gain_reads : rd (s +ℤ rd (x *ℤ y)) ≡ s +ℤ x *ℤ y
+  gain_reads = rw (rd_is gain_fits) (rd_is gained_fits)
+
 -- a part of the sum, and one product more
-pub dot_room : {n : ℕ} {A : List ℤ} {p : ℕ} {B : List ℤ} {q i j : ℕ} → Dot n A p B q i j → (k : ℕ) → k < n
-    → nat_abs (sum k (λ l. table_at n A p i l *ℤ table_at n B q l j)) + nat_abs (table_at n A p i k) * nat_abs (table_at n B q k j) < 2 ^ 63
-dot_room {n} {A} {p} {B} {q} {i} {j} r k h =
-    let x = r.exact in
-    let c : ℕ = x.c in
-    let d : ℕ = x.d in
-    let s : nat_abs (sum k (λ l. table_at n A p i l *ℤ table_at n B q l j)) ≤ k * (c * d) =
-    sum_bound k (λ l. table_at n A p i l *ℤ table_at n B q l j) (c * d)
-    (λ l m. *ℤ-bound (table_at n A p i l) (table_at n B q l j) (x.left l (below l m h)) (x.right l (below l m h))) in
-    let t : nat_abs (table_at n A p i k) * nat_abs (table_at n B q k j) ≤ c * d = mul-le-mul (x.left k h) (x.right k h) in
-    omega (arith, x.room, suc-mul k (c * d), mul-le-mul_right (c * d) h)
-  where
-    below : (l : ℕ) → l < k → k < n → l < n
-    below l a b = omega arith
+module _ {n : ℕ} {A : List ℤ} {p : ℕ} {B : List ℤ} {q i j : ℕ} (r : Dot n A p B q i j) (k : ℕ) (h : k < n) where
+  abbrev so_far : ℤ
+  so_far = sum k (λ l. table_at n A p i l *ℤ table_at n B q l j)
 
--- the sum after one product more
-pub dot_more : (n : ℕ) (A : List ℤ) (p : ℕ) (B : List ℤ) (q i j k : ℕ)
-    → sum k (λ l. table_at n A p i l *ℤ table_at n B q l j) +ℤ table_at n A p i k *ℤ table_at n B q k j ≡ sum (k + 1) (λ l. table_at n A p i l *ℤ table_at n B q l j)
-dot_more n A p B q i j k = sym (sum_one k (λ l. table_at n A p i l *ℤ table_at n B q l j))
+  dot_room : nat_abs so_far + nat_abs (table_at n A p i k) * nat_abs (table_at n B q k j) < 2 ^ 63
+  dot_room =
+      let x = r.exact in
+      let c : ℕ = x.c in
+      let d : ℕ = x.d in
+      let s : nat_abs so_far ≤ k * (c * d) =
+      sum_bound k (λ l. table_at n A p i l *ℤ table_at n B q l j) (c * d)
+      (λ l m. *ℤ-bound (table_at n A p i l) (table_at n B q l j) (x.left l (below l m)) (x.right l (below l m))) in
+      let t : nat_abs (table_at n A p i k) * nat_abs (table_at n B q k j) ≤ c * d = mul-le-mul (x.left k h) (x.right k h) in
+      omega (arith, x.room, suc-mul k (c * d), mul-le-mul_right (c * d) h)
+    where
+      below : (l : ℕ) → l < k → l < n
+      below l a = omega arith
 
--- ---- a product, while block o is written: the factors are as they were
+  pub dot_gain_fits : SFits w64 (table_at n A p i k *ℤ table_at n B q k j)
+  dot_gain_fits = gain_fits so_far (table_at n A p i k) (table_at n B q k j) dot_room
 
-module _ {n : ℕ} {L : List ℤ} {p q o : ℕ} (m : Product n L p q o) where
-  pub product_dot : {i j : ℕ} → i < n → j < n → Dot n L (p * (n * n)) L (q * (n * n)) i j
-  product_dot h k = record { order = m.order; left = m.left; right = m.right; row = h; column = k; exact = exact_at m.exact h k }
+  pub dot_gained_fits : SFits w64 (so_far +ℤ table_at n A p i k *ℤ table_at n B q k j)
+  dot_gained_fits = gained_fits so_far (table_at n A p i k) (table_at n B q k j) dot_room
 
-  module _ {K : List ℤ} (w : Beside n o L K) where
-    pub product_kept : Product n K p q o
-    product_kept = record {
-      order = m.order;
-      left = omega (arith, m.left, w.long);
-      right = omega (arith, m.right, w.long);
-      target = omega (arith, m.target, w.long);
-      apart = m.apart;
-      apart' = m.apart';
-      exact = exact-≈ (≈-sym (w.rest p m.apart)) (≈-sym (w.rest q m.apart')) m.exact;
-    }
+  pub dot_more : rd (so_far +ℤ rd (table_at n A p i k *ℤ table_at n B q k j)) ≡ sum (k + 1) (λ l. table_at n A p i l *ℤ table_at n B q l j)
+  dot_more = gain_reads so_far (table_at n A p i k) (table_at n B q k j) dot_room ∙ sym (sum_one k (λ l. table_at n A p i l *ℤ table_at n B q l j))
 
-    pub product_same : block n K p ·⟨ n ⟩ block n K q ≈⟨ n ⟩ block n L p ·⟨ n ⟩ block n L q
-    product_same = ·-cong n (w.rest p m.apart) (w.rest q m.apart')
+pub product_same : {n : ℕ} {L K : List ℤ} {p q o i j : ℕ} → Product n L p q o → Reached n o i j L K → block n K p ·⟨ n ⟩ block n K q ≈⟨ n ⟩ block n L p ·⟨ n ⟩ block n L q
+product_same {n} m w = ·-cong n (w.rest _ m.apart) (w.rest _ m.apart')
 
 pub at_zero : (n : ℕ) (A : List ℤ) → table_at n A 0 ≈⟨ n ⟩ entries n A
 at_zero n A i j h k = let e : 0 + (i * n + j) ≡ i * n + j = omega arith in ap (λ (m : ℕ). get_or A m (pos 0)) e
 
--- ---- a division, while block s is written: the factor is as it was, and so are the rows that are not reached
+-- ---- a division, where its entry is reached: the factor is as it was, and so is what stands there
 
-module _ {n X : ℕ} {A L : List ℤ} {m s : ℕ} (r : Shrink n X A L m s) where
-  pub shrink_dot : {i j : ℕ} → i < n → j < n → Dot n A 0 L (m * (n * n)) i j
-  shrink_dot h k = record {
-    order = r.order;
-    left = omega (arith, r.size);
-    right = r.factor;
-    row = h;
-    column = k;
-    exact = exact_at (exact-≈ (≈-sym (at_zero n A)) (λ i j a b. refl) r.exact) h k;
-  }
+-- what is subtracted
+pub shrink_sum : {n : ℕ} (A L K : List ℤ) (m : ℕ) {i j : ℕ} → block n K m ≈⟨ n ⟩ block n L m → i < n → j < n → (table_at n A 0 ·⟨ n ⟩ block n K m) i j ≡ (entries n A ·⟨ n ⟩ block n L m) i j
+shrink_sum {n} A L K m {i} {j} e h k = ·-cong n (at_zero n A) e i j h k
 
-  pub shrink_room : {i j : ℕ} → i < n → j < n → RowLow n (2 ^ 62) (block n L s) i → nat_abs (block n L s i j -ℤ (entries n A ·⟨ n ⟩ block n L m) i j) < 2 ^ 63
-  shrink_room {i} {j} h k low =
-      let x = r.exact in
-      omega (arith, nat_abs_sub (block n L s i j) ((entries n A ·⟨ n ⟩ block n L m) i j), low j k, x.room, ·-bound n (entries n A) (block n L m) {a = x.c} {b = x.d} x.left.low x.right.low i j h k)
+pub shrink_same : (X : ℕ) (A : List ℤ) {n : ℕ} {L K : List ℤ} {m s i j : ℕ} → m ≢ s → Reached n s i j L K → i < n → j < n → shrunk n X A K m s i j ≡ shrunk n X A L m s i j
+shrink_same X A {L = L} {K = K} {m = m} apart w h k = ap₂ (λ x y. shr_z (x -ℤ y) X) w.here (sym (shrink_sum A K K m (λ i j a b. refl) h k) ∙ shrink_sum A L K m (w.rest m apart) h k)
 
-  module _ {K : List ℤ} (w : Beside n s L K) where
-    pub shrink_kept : Shrink n X A K m s
-    shrink_kept = record {
-      order = r.order;
-      from = r.from;
-      upto = r.upto;
-      size = r.size;
-      factor = omega (arith, r.factor, w.long);
-      target = omega (arith, r.target, w.long);
-      apart = r.apart;
-      exact = exact-≈ (λ i j a b. refl) (≈-sym (w.rest m r.apart)) r.exact;
+-- and then the entry can be given: by the bounds of the whole tables, or by those of a row and a column
+pub shrink_asks : {n X : ℕ} {A L K : List ℤ} {m s i j : ℕ} → Dot n A 0 K (m * (n * n)) i j → X ≤ 2 ^ 32 → Has n L s → m ≢ s → Reached n s i j L K
+    → nat_abs (block n L s i j) ≤ 2 ^ 62 → nat_abs ((entries n A ·⟨ n ⟩ block n L m) i j) < 2 ^ 62 → ShrinkAt n X A K m s i j
+shrink_asks {n} {X} {A} {L} {K} {m} {s} {i} {j} d l t apart w low high =
+    let e = sym (shrink_sum A K K m (λ i j a b. refl) d.row d.column) ∙ shrink_sum A L K m (w.rest m apart) d.row d.column in
+    record {
+      dot = d;
+      upto = l;
+      target = omega (arith, t, w.long);
+      room = rw (w.here, e) (omega (arith, nat_abs_sub (block n L s i j) ((entries n A ·⟨ n ⟩ block n L m) i j)));
     }
 
-    -- what is subtracted is as it was
-    pub shrink_sum : {i j : ℕ} → i < n → j < n → (table_at n A 0 ·⟨ n ⟩ block n K m) i j ≡ (entries n A ·⟨ n ⟩ block n L m) i j
-    shrink_sum {i} {j} h k = ·-cong n (at_zero n A) (w.rest m r.apart) i j h k
+pub shrink_at : {n X : ℕ} {A L K : List ℤ} {m s i j : ℕ} → Shrink n X A L m s → Low n (2 ^ 62) (block n L s) → Reached n s i j L K → i < n → j < n → ShrinkAt n X A K m s i j
+shrink_at {n} {A = A} {L = L} {m = m} {i = i} {j = j} r low w h k =
+    let x = r.exact in
+    shrink_asks
+    (record {
+      order = r.order;
+      left = omega (arith, r.size);
+      right = omega (arith, r.factor, w.long);
+      row = h;
+      column = k;
+      exact = exact_at (exact-≈ (≈-sym (at_zero n A)) (≈-sym (w.rest m r.apart)) r.exact) h k;
+    })
+    r.upto r.target r.apart w (low.low i j h k)
+    (omega (arith, x.room, ·-bound n (entries n A) (block n L m) {a = x.c} {b = x.d} x.left.low x.right.low i j h k))
 
-    pub shrink_same : {i j : ℕ} → i < n → j < n → block n K s i j ≡ block n L s i j → shrunk n X A K m s i j ≡ shrunk n X A L m s i j
-    shrink_same {i} {j} h k q = ap₂ (λ x y. shr_z (x -ℤ y) X) q (·-cong n {A = entries n A} (λ i j a b. refl) (w.rest m r.apart) i j h k)
+-- the entry, of what the machine reads
+pub shrunk_gives : {n X : ℕ} {A L : List ℤ} {m s i j : ℕ} {x y : ℤ} → ShrinkAt n X A L m s i j → mag x < 2 ^ 63 → x ≡ block n L s i j → mag y < 2 ^ 63 → y ≡ (table_at n A 0 ·⟨ n ⟩ block n L m) i j
+    → rd (shr_z (rd (rd x -ℤ rd y)) X) ≡ shrunk n X A L m s i j
+shrunk_gives {n} {X} {A} {L} {m} {s} {i} {j} {x} {y} r f p g q =
+    let a = rd_got x f p in
+    let b = rd_got y g (q ∙ shrink_sum A L L m (λ i j b d. refl) r.dot.row r.dot.column) in
+    let z : SFits w64 (block n L s i j -ℤ (entries n A ·⟨ n ⟩ block n L m) i j) = fits_signed_from_abs w64 _ r.room in
+    rw (a, b, rd_is z) (rd_ok (shrunk n X A L m s i j) (lt_of_le_of_lt (mag_shr _ X) z.sfits))
 
--- ---- entry by entry
+-- ---- a reduction
 
-pub balance_gives : (X : ℕ) → 0 < X → (n : ℕ) (L : List ℤ) (o t : ℕ) {v r : ℤ} → v ≡ get_or L (o * (n * n) + t) (pos 0) → IsRem X v r → r ≡ flat n (λ i j. rem X (block n L o i j)) t
-balance_gives X p n L o t {v} {r} e m =
-    rem_unique (subst (λ (z : ℤ). IsRem X z r) (e ∙ sym (flat_block n L o t)) m) (rem_is X p (flat n (block n L o) t))
+pub balance_room : {n X : ℕ} {L K : List ℤ} {o i j : ℕ} (z : ℤ) → Balance n X L o → Reached n o i j L K → i < n → j < n → mag z < 2 ^ 63 → z ≡ block n K o i j → nat_abs (rd z) + 2 ^ 40 < 2 ^ 63
+balance_room z r w h k t e = let x = rd_got z t (e ∙ w.here) in rw x (omega (arith, r.room.low _ _ h k))
 
-pub extend_gives : (X n : ℕ) (L : List ℤ) (c d t : ℕ) → get_or L (c * (n * n) + t) (pos 0) +ℤ pos X *ℤ get_or L (d * (n * n) + t) (pos 0) ≡ flat n (λ i j. block n L c i j +ℤ pos X *ℤ block n L d i j) t
-extend_gives X n L c d t = sym (ap₂ (λ x y. x +ℤ pos X *ℤ y) (flat_block n L c t) (flat_block n L d t))
+pub balance_gives : {X : ℕ} {v r : ℤ} (z : ℤ) → 0 < X → mag z < 2 ^ 63 → z ≡ v → IsRem X (rd z) r → r ≡ rem X v
+balance_gives {X} {v} {r} z p t e m = rem_unique (subst (λ (y : ℤ). IsRem X y r) (rd_got z t e) m) (rem_is X p v)
 
-pub extend_room : {n X : ℕ} {L : List ℤ} {c d : ℕ} → Extend n X L c d → (t : ℕ) → t < n * n → nat_abs (get_or L (c * (n * n) + t) (pos 0)) + X * nat_abs (get_or L (d * (n * n) + t) (pos 0)) < 2 ^ 63
-extend_room {n} {X} {L} {c} {d} r t h =
-    let o = r.order in
-    let q = r.room (t / n) (t % n) ((div-lt_iff_lt-mul {k = n} o.from).1 h) (mod-lt t o.from) in
-    subst (λ (z : ℤ). nat_abs (get_or L (c * (n * n) + t) (pos 0)) + X * nat_abs z < 2 ^ 63) (flat_block n L d t)
-    (subst (λ (z : ℤ). nat_abs z + X * nat_abs (flat n (block n L d) t) < 2 ^ 63) (flat_block n L c t) q)
+-- ---- an extension
 
--- a block that is all zero, by places
-pub zero_of : {n : ℕ} (L : List ℤ) (o : ℕ) → ((k : ℕ) → k < n * n → get_or L (o * (n * n) + k) (pos 0) ≡ pos 0) → Zero n (block n L o)
-zero_of {n} L o f i j h k = f (i * n + j) (digits_lt h k)
-
-pub zero_at : {n : ℕ} (L : List ℤ) (o t : ℕ) → IsOrder n → t < n * n → Zero n (block n L o) → get_or L (o * (n * n) + t) (pos 0) ≡ pos 0
-zero_at {n} L o t r l z =
-    sym (flat_block n L o t) ∙ z (t / n) (t % n) ((div-lt_iff_lt-mul {k = n} r.from).1 l) (mod-lt t r.from)
+pub extend_gives : {x y z a b d v : ℤ} → mag x < 2 ^ 63 → mag y < 2 ^ 63 → mag z < 2 ^ 63 → x ≡ a → y ≡ b → z ≡ d → nat_abs a + nat_abs b * nat_abs d < 2 ^ 63
+    → v ≡ rd (rd x +ℤ rd (rd y *ℤ rd z)) → v ≡ a +ℤ b *ℤ d
+extend_gives {x} {y} {z} {a} {b} {d} f g h p q r room e = (simp (rd_got x f p, rd_got y g q, rd_got z h r) at e) ∙ gain_reads a b d room
