@@ -1,10 +1,9 @@
 -- The vocabulary of the parity's inner contracts: a reader of the public calls can skip it.
 --   bits p              the table whose columns are the words of p: bit i of word j is its entry in row i and column j
 --   xored l d s         the list l with word s joined to word d: each bit of word d becomes the sum of both, modulo 2
---   Sized n p           n is at most 32, and the list holds n words or more
 --   Settles n r P P'    whatever A is, from r rows the work went on to r + 1
 --   Loaded m A j w      the first m bits of w are the parities of column j, and it has no others
-use Rattle.std.specs.Prelude.{◌≡◌, List, ℕ, ◌+◌, ◌/◌, ◌%◌, ◌^◌, ◌≤◌, ◌<◌, pos, length, get_or, set}
+use Rattle.std.specs.Prelude.{◌≡◌, List, ℕ, ◌+◌, ◌/◌, ◌%◌, ◌^◌, ◌≤◌, ◌<◌, pos, get_or, set}
 use Rattle.std.specs.Int.Bits.{bit_xor}
 use Rattle.numbers.specs.Numbers.{Cong}
 use Rattle.tables.specs.Tables.{Matrix}
@@ -15,10 +14,6 @@ bits p i j = pos (get_or p j 0 / 2 ^ i % 2)
 
 abbrev pub xored : List ℕ → ℕ → ℕ → List ℕ
 xored l d s = set l d (bit_xor (get_or l d 0) (get_or l s 0))
-
-pub record Sized (n : ℕ) (p : List ℕ) : Type 0 where
-  pub order : n ≤ 32
-  pub long : n ≤ length p
 
 pub record Settles (n r : ℕ) (P P' : Matrix) : Type 0 where
   pub on : (A : Matrix) → Reaches n 2 r A P → Reaches n 2 (r + 1) A P'

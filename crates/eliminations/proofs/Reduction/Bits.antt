@@ -3,7 +3,7 @@ use mathlib.Core.Path.{◌≡◌, refl, ap, ◌∙◌}
 use mathlib.Core.Logic.{◌≢◌}
 use mathlib.Core.Bool.{not}
 use mathlib.Core.List.{List}
-use Prim.Native.Nat.{ℕ, zero, suc, ◌+◌, ◌-◌, ◌*◌, ◌/◌, ◌%◌, ◌^◌, ◌<◌, ◌≤◌}
+use Prim.Native.Nat.{ℕ, zero, suc, ◌+◌, ◌-◌, ◌*◌, ◌/◌, ◌%◌, ◌^◌, ◌<◌}
 use native.Mathlib.Nat.{mod-lt, zero-div, div_self, div-eq_of_lt, mul-mod_left, pow-suc, one-mul}
 use native.Mathlib.Decide.{dec_lt}
 use native.Mathlib.Omega.{arith}
@@ -13,9 +13,9 @@ use lib.IntN.{ℤ, pos, negsuc, neg_ℤ}
 use lib.ListN.{length, get_or}
 use lib.Pow.{pow-add, pow_pos, pow-lt, shl-shr, shl_exact}
 use lib.Seq.{get_or-set_same, get_or-set_other}
-use lib.Signed.{mag, quot_z, rem_z}
+use lib.Signed.{rem_z}
 use mir.Syntax.{w64}
-use mir.Val.{SFits, to_z, of_z}
+use mir.Val.{to_z, of_z}
 use Rattle.numbers.specs.Says.{Says}
 use Rattle.numbers.proofs.Answers.Says.{say_yes, say_no}
 use Rattle.numbers.proofs.Algebra.RingSolver.{ring, #◌, ⊝◌, ◌⊕◌, ◌⊖◌, ◌⊗◌, ◌≐◌}
@@ -28,9 +28,6 @@ use Rattle.eliminations.specs.Elimination.{ColumnStep, Some, One}
 
 pub bit_lt : (w i : ℕ) → w / 2 ^ i % 2 < 2
 bit_lt w i = mod-lt (w / 2 ^ i) (omega arith)
-
-pub bit_one : (w i : ℕ) → w / 2 ^ i % 2 ≢ 0 → w / 2 ^ i % 2 ≡ 1
-bit_one w i e = omega (arith, bit_lt w i)
 
 pub bit_zero : (i : ℕ) → 0 / 2 ^ i % 2 ≡ 0
 bit_zero i = ap (λ (x : ℕ). x % 2) (zero-div (2 ^ i))
@@ -99,14 +96,6 @@ odd_test (negsuc n) =
     rw (odd_neg (suc n % 2) (mod-lt (suc n) (omega arith)))
     (odd_pos (negsuc n) (suc n % 2) (mod-lt (suc n) (omega arith))
     (cong_trans (mod2_cong (suc n)) (record { quot = pos (suc n); eqn = ring 1 (λ k. k ⊖ (⊝ k) ≐ # 2 ⊗ k) tt (pos (suc n)) })))
-
-mag_neg : (m : ℕ) → mag (neg_ℤ (pos m)) ≤ m
-mag_neg zero = omega arith
-mag_neg (suc m) = omega arith
-
-pub half_fits : (z : ℤ) → SFits w64 z → SFits w64 (quot_z z (to_z w64 2))
-half_fits (pos n) h = record { sfits = omega (arith, h.sfits) }
-half_fits (negsuc n) h = record { sfits = omega (arith, h.sfits, mag_neg (suc n / 2)) }
 
 -- ---- words
 

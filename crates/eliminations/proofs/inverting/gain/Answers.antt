@@ -1,6 +1,6 @@
-use Rattle.eliminations.proofs.Reduction.Rows.{row_gains, held_copy}
 use native.Mathlib.Omega.{arith}
+use Rattle.eliminations.proofs.Reduction.Rows.{row_gains, held_here}
 use Rattle.eliminations.proofs.inverting.gain.Goals as goal
 
 pub returns : goal.returns
-returns c = row_gains (omega arith) (held_copy c.requires.0 c.copy_row.ensures) c.fold_row.ensures
+returns c = row_gains (omega arith) c.requires.1.0 (held_here c.args.t.now) c.fold_front.ensures

@@ -6,6 +6,5 @@ use Rattle.eliminations.proofs.inverting.lead.Goals as goal
 
 pub returns-then-s-r : goal.returns-then-s-r
 returns-then-s-r c =
-    let s = c.requires.spans in
     let v = c.pivot-s.ensures in
-    lead_gain s.1 v.1 s.0 v.0 (record { quot = pos (2 ^ 31); eqn = refl }) c.if-s-r.true c.gain.ensures c.gain-then-s-r.ensures
+    lead_gain v.1 c.requires.inside.0 v.0 (record { quot = pos (2 ^ 31); eqn = refl }) c.if-s-r.true c.gain.ensures

@@ -8,12 +8,9 @@ use Rattle.eliminations.proofs.parity.column.Goals.{then-odd, else-odd}
 
 pub loop-i-preserved : goal.loop-i-preserved
 loop-i-preserved c =
-    let g = c.args in
-    let odd = c.odd.ensures in
-    let read = rd_ok (entries g.n g.a.now c.loop-i.i g.j) c.x-1.given in (
-      omega arith,
-      elim c.if-odd.branch [
-        | then-odd w ↦ rw (w.w-is, one_shl c.loop-i.i (omega arith)) (load_odd c.loop-i.invariant.1 (rw read at (odd.yes w.if-odd.true)))
-        | else-odd w ↦ rw w.w-is (load_even c.loop-i.invariant.1 (rw read at (odd.no w.if-odd.false)))
-      ],
-    )
+    let q = c.loop-i.invariant in
+    let read = rd_ok (entries c.args.n c.args.a.now c.loop-i.i c.args.j) (omega arith) in
+    elim c.if-odd.branch [
+      | then-odd w ↦ rw (w.w-is, one_shl c.loop-i.i (omega arith)) (load_odd q (rw read at (c.odd.ensures.yes w.if-odd.true)))
+      | else-odd w ↦ rw w.w-is (load_even q (rw read at (c.odd.ensures.no w.if-odd.false)))
+    ]
