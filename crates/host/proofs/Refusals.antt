@@ -1,6 +1,6 @@
 -- What the host's calls give, from what verdict and inverse give for the decoded table.
 use mathlib.Core.Path.{◌≡◌, refl, sym, subst}
-use mathlib.Core.Logic.{◌≢◌, ◌⊎◌, inl, inr}
+use mathlib.Core.Logic.{◌≢◌, ◌⊎◌}
 use mathlib.Core.List.{List}
 use Prim.Native.Nat.{ℕ, ◌*◌}
 use native.Mathlib.Omega.{arith}
@@ -29,13 +29,6 @@ host_inverse_lowest {n} {T} {O} p = gives_lowest 0 (host_inverse_refusals n T O)
 
 -- ---- verdict
 
-module _ {n : ℕ} {T : List ℕ} where
-  pub host_verdict_order : ¬ IsOrder n → HostVerdictGives n T 1
-  host_verdict_order f = record { number = inl (f, refl); whole = λ z. absurd (omega arith) }
-
-  pub host_verdict_length : IsOrder n → length T ≢ 4 * (n * n) → HostVerdictGives n T 3
-  host_verdict_length o f = record { number = inr (λ g. g o, inl (f, refl)); whole = λ z. absurd (omega arith) }
-
 -- the lengths apart, the numbers are those of the decoded table
 verdict_number : (n : ℕ) (T : List ℕ) {k : ℕ} → length T ≡ 4 * (n * n) → Gives (verdict_refusals n (decode T)) k → Gives (host_verdict_refusals n T) k
 verdict_number n T {k} e =
@@ -49,15 +42,8 @@ host_verdict {n} {T} r e q v i =
 
 -- ---- inverse
 
-module _ {n : ℕ} {T O : List ℕ} where
-  refused : (k : ℕ) → k ≢ 0 → Gives (host_inverse_refusals n T O) k → HostInverseGives n T O k O
-  refused k z g = record { number = g; kept = λ f. refl; written = λ e. absurd (z e) }
-
-  pub host_inverse_order : ¬ IsOrder n → HostInverseGives n T O 1 O
-  host_inverse_order f = refused 1 (λ z. omega arith) (inl (f, refl))
-
-  pub host_inverse_length : IsOrder n → (length T ≢ 4 * (n * n)) ⊎ (length O ≢ 8 * (n * n)) → HostInverseGives n T O 3 O
-  host_inverse_length o f = refused 3 (λ z. omega arith) (inr (λ g. g o, inl (f, refl)))
+refused : {n : ℕ} {T O : List ℕ} (k : ℕ) → k ≢ 0 → Gives (host_inverse_refusals n T O) k → HostInverseGives n T O k O
+refused k z g = record { number = g; kept = λ f. refl; written = λ e. absurd (z e) }
 
 inverse_number : (n : ℕ) (T O : List ℕ) (K : List ℤ) {k : ℕ} → length T ≡ 4 * (n * n) → length O ≡ 8 * (n * n) → length K ≡ n * n → Gives (inverse_refusals n (decode T) K) k → Gives (host_inverse_refusals n T O) k
 inverse_number n T O K {k} e u z =

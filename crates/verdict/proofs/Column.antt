@@ -1,17 +1,17 @@
 -- One column tells a no. The program follows the first column of the linear residue of I (lifting, Following). Where a whole inverse exists, this residue is 0
 -- once X^m is large enough, and n digits are.
 use mathlib.Core.Path.{◌≡◌, refl, sym, ◌∙◌}
-use mathlib.Core.Bool.{Bool, true, false, false≢true}
+use mathlib.Core.Bool.{Bool, true, false, not, false≢true}
 use mathlib.Core.List.{List}
 use Prim.Native.Nat.{ℕ, ◌*◌, ◌-◌, ◌^◌, ◌≤◌}
 use native.Mathlib.Nat.{mul-le-mul_left}
 use native.Mathlib.Omega.{arith}
 use lib.IntN.{ℤ}
 use lib.ListN.{length}
-use Rattle.numbers.specs.Limits.{IsOrder}
+use Rattle.numbers.specs.Says.{Tells}
 use Rattle.numbers.proofs.Algebra.Sum.{δ}
 use Rattle.tables.specs.Tables.{◌≈⟨◌⟩◌, block, entries, height}
-use Rattle.kernels.specs.Columns.{ColumnPut, ColumnZero, ToCopy}
+use Rattle.kernels.specs.Columns.{ColumnPut, ColumnZero}
 use Rattle.tables.proofs.Algebra.Matrix.{≈-refl, ≈-sym, ≈-trans}
 use Rattle.tables.proofs.Checking.Heights.{height_one, entries_low}
 use Rattle.tables.proofs.Inverses.Residue.{bound_power}
@@ -25,14 +25,6 @@ use Rattle.lifting.proofs.Calls.Holding.{holds_first, holds_stage}
 use Rattle.lifting.proofs.Calls.Following.{Follows, follows_stands}
 use Rattle.verdict.specs.Parts.{Fails}
 use Rattle.verdict.proofs.Buffer.{in_buffer}
-
-pub copy_asks : {n : ℕ} {E : List ℤ} → IsOrder n → length E ≡ 4096 → ToCopy n E 1 2
-copy_asks order long = record {
-  order = order;
-  source = in_buffer 1 order.upto (omega arith) long;
-  target = in_buffer 2 order.upto (omega arith) long;
-  apart = λ e. omega arith;
-}
 
 -- E before the first column of R_0 was copied, K after it
 module _ {n : ℕ} {E K : List ℤ} (p : ColumnPut n (λ i. block n E 1 i 0) 2 E K) where
@@ -84,3 +76,8 @@ module _ {n X : ℕ} {A K : List ℤ} {m : ℕ} {L : List ℤ} (q : Follows n X 
           let s = q.stage.setting.suits in
           let small : 4 * (n * height A) ≤ X = omega (arith, mul-le-mul_left (n * height A) one, s.reaches) in
           bound_power (n * height A) X (n - 1) m small (omega (arith, s.from)) (omega arith) q.some
+
+  -- the column's test decides, after n digits
+  pub fails_told : n ≤ m → (b : Bool) → Tells (ColumnZero n (block n L 2)) b → Fails n A K (not b) L
+  fails_told a true t = fails_not
+  fails_told a false t = fails_so a (t.no refl)

@@ -1,5 +1,5 @@
 -- The numbers that verdict and inverse give back, in their order, with their two values.
-use mathlib.Core.Path.{◌≡◌, refl, sym, ap, subst}
+use mathlib.Core.Path.{◌≡◌, refl, sym, subst}
 use mathlib.Core.Logic.{◌≢◌, ◌⊎◌, inl, inr, ⊎_elim}
 use mathlib.Core.List.{List}
 use Prim.Native.Nat.{ℕ, ◌*◌}
@@ -7,17 +7,20 @@ use native.Mathlib.Omega.{arith}
 use native.Mathlib.Decide.{ℕ_discrete}
 use lib.IntN.{ℤ}
 use lib.ListN.{length}
-use Rattle.numbers.specs.Limits.{IsOrder, IsNarrow, Legal, Lawful, table_refusals}
+use Rattle.numbers.specs.Limits.{IsNarrow, Lawful, table_refusals}
 use Rattle.numbers.specs.Numbers.{IsNeed, IsLifts}
+use Rattle.numbers.proofs.Answers.Reasons.{refusal_some}
 use Rattle.numbers.specs.Refusals.{Refusals, done, ◌when◌then◌, ◌thereafter◌, Gives, Lowest}
 use Rattle.numbers.proofs.Answers.Decisions.{stable}
 use Rattle.numbers.proofs.Answers.Refusals.{Passes, passes_on, refused_stays, from_second, learnt, gives_lowest}
 use Rattle.numbers.proofs.Answers.Tables.{lawful_passes, passes_lawful, fit, same_head}
 use Rattle.tables.specs.Tables.{entries, height, HasWholeInverse}
 use Rattle.tables.proofs.Inverses.TwoSided.{inverse_unique}
-use Rattle.lifting.specs.Steps.{Stage}
 use Rattle.verdict.specs.Verdict.{TooWide, IsNarrowInverse, answer, outcome_of, Told, after_0, after_7, after_8, Values, verdict_numbers, verdict_refusals, VerdictGives, inverse_refusals, InverseGives}
-use Rattle.verdict.specs.Parts.{Leaves, NoneNarrow}
+use Rattle.tables.proofs.Inverses.Laws.{whole_mod}
+use Rattle.verdict.specs.Parts.{FindingTells, Leaves, NoneNarrow}
+use Rattle.verdict.specs.declared.Finding.{Finding}
+use Rattle.verdict.specs.declared.Finding.TheVariants.{NoneModulo2, NoneWhole}
 use Rattle.verdict.specs.declared.Ruling.{Ruling}
 use Rattle.verdict.specs.declared.Ruling.TheVariants.{Yes, No, Refused}
 use Rattle.verdict.specs.declared.Outcome.{Outcome}
@@ -43,9 +46,6 @@ untold k a b c t = go t refl
 told_values : {n : ℕ} {A : List ℤ} {k e l : ℕ} → Told k → IsNeed n (height A) e → IsLifts n l → Values n A (answer k e l)
 told_values t p q = record { told = λ u. (p, q); zeros = λ f. absurd (f t) }
 
-zero_values : {n : ℕ} {A : List ℤ} {k : ℕ} → ¬ Told k → Values n A (answer k 0 0)
-zero_values f = record { told = λ t. absurd (f t); zeros = λ g. (refl, refl) }
-
 -- need(A) is not 0, so two zeros tell nothing
 pub zeros_untold : {n : ℕ} {A : List ℤ} {k : ℕ} → Values n A (answer k 0 0) → ¬ Told k
 zeros_untold v t = let h = (v.told t).0.holds.from in omega arith
@@ -55,8 +55,20 @@ zeros_untold v t = let h = (v.told t).0.holds.from in omega arith
 pub leaves_none : {n X k e l : ℕ} {A M : List ℤ} → k ≢ 0 → Leaves n X A M (answer k e l)
 leaves_none f = record { stage = λ z. absurd (f z) }
 
-pub leaves_yes : {n X e l : ℕ} {A M : List ℤ} {r : Ruling} → Leaves n X A M (outcome_of r) → r ≡ Yes e l → Stage n X A M
-leaves_yes k q = k.stage (ap (λ r. (outcome_of r).number) q)
+-- need(A), from the height that the code found
+pub need_of_top : {n h e : ℕ} (A : List ℤ) → h ≡ height A → IsNeed n h e → IsNeed n (height A) e
+need_of_top {n} {e = e} A t k = subst (λ (h : ℕ). IsNeed n h e) t k
+
+-- two findings tell a no
+pub found_none : {n : ℕ} (X : ℕ) (A M : List ℤ) {f : Finding} → (f ≡ NoneModulo2) ⊎ (f ≡ NoneWhole) → FindingTells n X A M f → ¬ HasWholeInverse n (entries n A)
+found_none {n} X A M (inl e) t w = (subst (FindingTells n X A M) e t) (whole_mod w 2)
+found_none {n} X A M (inr e) t w = (subst (FindingTells n X A M) e t).1 w
+
+-- what is no yes has a number
+pub not_yes : (r : Ruling) → ((e l : ℕ) → ¬ (r ≡ Yes e l)) → (outcome_of r).number ≢ 0
+not_yes (Yes e l) f z = f e l refl
+not_yes (No e l) f z = omega arith
+not_yes (Refused r) f z = refusal_some r z
 
 -- ---- the lists: what follows their head
 
@@ -67,20 +79,6 @@ abbrev pub too_wide_refusals : ℕ → List ℤ → Refusals
 too_wide_refusals n A = 8 when TooWide n (entries n A) then done
 
 -- ---- verdict
-
-module _ {n : ℕ} {A : List ℤ} where
-  refused : (k : ℕ) → k ≢ 0 → k ≢ 7 → k ≢ 8 → Gives (verdict_refusals n A) k → VerdictGives n A (answer k 0 0)
-  refused k a b c g = record { number = g; values = zero_values (untold k a b c); whole = λ z. absurd (a z) }
-
-  pub verdict_order : ¬ IsOrder n → VerdictGives n A (answer 1 0 0)
-  verdict_order f = refused 1 (λ z. omega arith) (λ z. omega arith) (λ z. omega arith) (inl (f, refl))
-
-  pub verdict_length : IsOrder n → length A ≢ n * n → VerdictGives n A (answer 3 0 0)
-  verdict_length o f = refused 3 (λ z. omega arith) (λ z. omega arith) (λ z. omega arith) (inr (λ g. g o, inl (f, refl)))
-
-  pub verdict_entry : IsOrder n → length A ≡ n * n → ¬ Legal A → VerdictGives n A (answer 4 0 0)
-  verdict_entry o s f =
-      refused 4 (λ z. omega arith) (λ z. omega arith) (λ z. omega arith) (inr (λ g. g o, inr (λ g. g s, inl (f, refl))))
 
 module _ {n : ℕ} {A : List ℤ} (law : Lawful n A) {e l : ℕ} (need : IsNeed n (height A) e) (depth : IsLifts n l) where
   verdict_number : {k : ℕ} → Gives (none_whole n A) k → Gives (verdict_refusals n A) k
@@ -124,18 +122,6 @@ module _ {n : ℕ} {A : List ℤ} (law : Lawful n A) {e l : ℕ} (need : IsNeed 
         not_wide t =
             t.passes (λ i j a b. subst (λ (z : ℤ). IsNarrow z) (inverse_unique n (entries n A) (entries n E) t.inverse w.right t.right i j a b) (w.narrow i j a b))
 
--- ---- what inverse itself refuses
-
-module _ {n : ℕ} {A L : List ℤ} where
-  kept : (k : ℕ) → k ≢ 0 → k ≢ 7 → k ≢ 8 → Gives (inverse_refusals n A L) k → InverseGives n A L (answer k 0 0) L
-  kept k a b c g = record { number = g; values = zero_values (untold k a b c); kept = λ z. refl; written = λ z. absurd (a z) }
-
-  pub inverse_order : ¬ IsOrder n → InverseGives n A L (answer 1 0 0) L
-  inverse_order f = kept 1 (λ z. omega arith) (λ z. omega arith) (λ z. omega arith) (inl (f, refl))
-
-  pub inverse_length : IsOrder n → length L ≢ n * n → InverseGives n A L (answer 3 0 0) L
-  inverse_length o f = kept 3 (λ z. omega arith) (λ z. omega arith) (λ z. omega arith) (inr (λ g. g o, inl (inr f, refl)))
-
 -- ---- inverse from verdict
 
 -- a number that verdict refuses with, inverse refuses with
@@ -144,9 +130,6 @@ as_verdict n A L {k} s z g =
     let P : Type 0 = length A ≢ n * n in
     let Q : Type 0 = (length A ≢ n * n) ⊎ (length L ≢ n * n) in
     refused_stays (verdict_numbers n Q A) (too_wide_refusals n A) z (same_head n P Q A (none_whole n A) k (λ p. inl p, ⊎_elim (λ p. p) (λ f. absurd (f s))) g)
-
-inverse_as_verdict : {n : ℕ} {A L : List ℤ} {o : Outcome} → length L ≡ n * n → o.number ≢ 0 → VerdictGives n A o → InverseGives n A L o L
-inverse_as_verdict {n} {A} {L} s z v = record { number = as_verdict n A L s z v.number; values = v.values; kept = λ f. refl; written = λ e. absurd (z e) }
 
 -- a table that is not refused is lawful
 lawful : (n : ℕ) (A : List ℤ) → Passes (table_refusals n (length A ≢ n * n) A) → Lawful n A
@@ -161,15 +144,10 @@ passed_no n A g =
     (lawful n A p.0, learnt (none_whole n A) 7 tt p.1)
 
 -- what inverse gives after each case of the verdict's answer
+pub inverse_as_verdict : {n : ℕ} {A L : List ℤ} {o : Outcome} → length L ≡ n * n → o.number ≢ 0 → VerdictGives n A o → InverseGives n A L o L
+inverse_as_verdict {n} {A} {L} s z v = record { number = as_verdict n A L s z v.number; values = v.values; kept = λ f. refl; written = λ e. absurd (z e) }
+
 module _ {n : ℕ} {A : List ℤ} {r : Ruling} (says : VerdictGives n A (outcome_of r)) {L : List ℤ} (size : length L ≡ n * n) where
-  pub after_refused : {k : ℕ} → r ≡ Refused k → InverseGives n A L (answer k 0 0) L
-  after_refused {k} q =
-      let v : VerdictGives n A (answer k 0 0) = subst (λ (r : Ruling). VerdictGives n A (outcome_of r)) q says in
-      inverse_as_verdict size (λ z. zeros_untold v.values (subst Told (sym z) after_0)) v
-
-  pub after_no : {e l : ℕ} → r ≡ No e l → InverseGives n A L (answer 7 e l) L
-  after_no q = inverse_as_verdict size (λ z. omega arith) (subst (λ (r : Ruling). VerdictGives n A (outcome_of r)) q says)
-
   pub after_wide : {e l : ℕ} → r ≡ Yes e l → NoneNarrow n A → InverseGives n A L (answer 8 e l) L
   after_wide {e} {l} q f =
       let v : VerdictGives n A (answer 0 e l) = subst (λ (r : Ruling). VerdictGives n A (outcome_of r)) q says in

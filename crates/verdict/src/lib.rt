@@ -1,15 +1,19 @@
 // Verdict and inverse.
 #![tactic(auto)]
 
-ghost use Rattle.std.specs.Prelude.{◌≡◌, ◌*◌, ◌^◌, length, take};
+ghost use Rattle.std.specs.Prelude.{◌≡◌, ◌*◌, ◌^◌, take};
 ghost use Rattle.tables.specs.Tables.{entries, block};
-ghost use Rattle.numbers.specs.Limits.{IsOrder};
+ghost use Rattle.numbers.specs.Limits.{IsOrder, Lawful};
+ghost use Rattle.numbers.specs.Reasons.{refusal_number};
 ghost use Rattle.numbers.specs.Says.{Says, Tells};
 ghost use Rattle.numbers.specs.Numbers.{IsLifts};
 ghost use Rattle.lifting.specs.Lifting.{IsStart};
-ghost use Rattle.lifting.specs.Steps.{Setting, Stage};
-ghost use Rattle.verdict.specs.Verdict.{Narrow, IsNarrowInverse, outcome_of, VerdictGives, InverseGives};
+ghost use Rattle.lifting.specs.Steps.{Stage};
+ghost use Rattle.verdict.specs.Verdict.{Narrow, IsNarrowInverse, answer, outcome_of, VerdictGives, InverseGives};
 ghost use Rattle.verdict.specs.Parts.{FindingTells, Fails, Leaves, NoneNarrow, Covers, Summed, Standing};
+
+use lifting::steps::Lifter;
+use numbers::refusals::Refusal;
 
 // A second digit beyond it passes the width, whatever the first is: 2^23.
 const MOST_DIGIT: u64 = 8388608;
@@ -17,12 +21,12 @@ const MOST_DIGIT: u64 = 8388608;
 // The buffer for the work: four blocks of the largest order.
 pub const BUFFER: usize = 4096;
 
-// The verdict: yes or no, each with exponent and lifts, or refused by a number.
+// The verdict: yes or no, each with exponent and lifts, or refused for a reason, whose number document 01 says.
 #[derive(Clone, Copy)]
 pub enum Ruling {
     Yes { exponent: u32, lifts: u32 },
     No { exponent: u32, lifts: u32 },
-    Refused(u32),
+    Refused(Refusal),
 }
 
 // What the work finds: no inverse modulo 2; one modulo 2, but none whole; or a whole one.
@@ -33,12 +37,25 @@ enum Finding {
     Whole,
 }
 
-// An answer as document 01 gives it: the number, and the exponent and the lifts beside it.
+// An answer as document 01 gives it: the number, and the exponent and the lifts beside it. (An enum would not do: the inverse call gives its number, with two
+// values after 0, 7 and 8 and two zeros after the others.)
 #[derive(Clone, Copy)]
 pub struct Outcome {
     pub number: u32,
     pub exponent: u32,
     pub lifts: u32,
+}
+
+impl From<Refusal> for Outcome {
+    ghost from_gives = { λ r o. o ≡ answer (refusal_number r) 0 0 };
+
+    fn from(refusal: Refusal) -> Outcome {
+        Outcome {
+            number: refusal.number(),
+            exponent: 0,
+            lifts: 0,
+        }
+    }
 }
 
 // Number, exponent and lifts of a ruling.
@@ -56,41 +73,32 @@ pub fn outcome_of(v: Ruling) -> Outcome
             exponent,
             lifts,
         },
-        Ruling::Refused(k) => Outcome {
-            number: k,
-            exponent: 0,
-            lifts: 0,
-        },
+        Ruling::Refused(refusal) => Outcome::from(refusal),
     }
 }
 
-// What A has, by at most k lifts at the exponent e: a residue that vanishes says at once that there is a whole inverse.
+// What A has, by at most k lifts: a residue that vanishes says at once that there is a whole inverse.
 // B_0 is in block 0 of the buffer, and stays there; the residues are in blocks 1 and 2 by turns, the digits in block 3.
-fn find(n: usize, e: u32, k: u32, a: &[i64], buf: &mut [i64]) -> Finding
-    requires setting { Setting n (2 ^ e) a.now }
-    requires lifts { IsLifts n k }
-    requires room { length buf.old ≡ 4096 }
-    ensures { FindingTells n (2 ^ e) a.now buf.new result }
+fn find(lifter: Lifter, k: u32, buf: &mut [i64; BUFFER]) -> Finding
+    requires { IsLifts lifter.n k }
+    ensures { let l = lifter.entry in FindingTells l.n (2 ^ l.exponent) l.table.now buf.new result }
 {
-    if !eliminations::parity::has_inverse(n, a) {
+    let n = lifter.n;
+    if !eliminations::parity::has_inverse(n, lifter.table) {
         return Finding::NoneModulo2;
     }
-    lifting::start(n, e, a, buf);
-    if fails(n, e, a, buf) {
+    lifter.start(buf);
+    if fails(lifter, buf) {
         return Finding::NoneWhole;
     }
     let mut r: usize = 1;
     let mut s: usize = 2;
-    let mut t: u32 = 0;
-    while t < k {
+    for _ in 0..k {
         if kernels::blocks::vanishes(n, buf, r) {
             return Finding::Whole;
         }
-        lifting::step(n, e, a, buf, r, 3, s);
-        let q = r;
-        r = s;
-        s = q;
-        t += 1;
+        lifter.step(buf, r, 3, s);
+        std::mem::swap(&mut r, &mut s);
     }
     let gone = kernels::blocks::vanishes(n, buf, r);
     if gone {
@@ -99,58 +107,48 @@ fn find(n: usize, e: u32, k: u32, a: &[i64], buf: &mut [i64]) -> Finding
     Finding::NoneWhole
 }
 
-// Whether the first column alone tells that A has no whole inverse, from B_0 and R_0 at the exponent e in blocks 0 and 1: after n digits, each the
-// work of two rows of products, its residue is not zero. Blocks 2 and 3 are for work.
-fn fails(n: usize, e: u32, a: &[i64], buf: &mut [i64]) -> bool
-    requires setting { Setting n (2 ^ e) a.now }
-    requires room { length buf.old ≡ 4096 }
-    requires start { IsStart n (2 ^ e) (entries n a.now) (block n buf.old 0) (block n buf.old 1) }
-    ensures { Fails n a.now buf.old result buf.new }
+// Whether the first column alone tells that A has no whole inverse, from B_0 and R_0 in blocks 0 and 1: after n digits, each the work of two rows of
+// products, its residue is not zero. Blocks 2 and 3 are for work.
+fn fails(lifter: Lifter, buf: &mut [i64; BUFFER]) -> bool
+    requires { let l = lifter in IsStart l.n (2 ^ l.exponent) (entries l.n l.table.now) (block l.n buf.old 0) (block l.n buf.old 1) }
+    ensures { Fails lifter.entry.n lifter.entry.table.now buf.old result buf.new }
 {
+    let n = lifter.n;
     kernels::columns::copy(n, buf, 1, 2);
-    let mut t: usize = 1;
-    while t < n {
+    for _ in 1..n {
         if kernels::columns::vanishes(n, buf, 2) {
             return false;
         }
-        lifting::column_digit(n, e, a, buf, 2, 3);
-        t += 1;
+        lifter.column_digit(buf, 2, 3);
     }
-    if kernels::columns::vanishes(n, buf, 2) {
-        return false;
-    }
-    true
+    !kernels::columns::vanishes(n, buf, 2)
 }
 
 // The ruling, with a buffer for the work; after a yes B_0 at the exponent 32 is in block 0.
-fn decide(n: usize, a: &[i64], buf: &mut [i64]) -> Ruling
-    requires { length buf.old ≡ 4096 }
+fn decide(n: usize, a: &[i64], buf: &mut [i64; BUFFER]) -> Ruling
     ensures { VerdictGives n a.now (outcome_of result) × Leaves n (2 ^ 32) a.now buf.new (outcome_of result) }
 {
-    if !tables::checks::is_order(n) {
-        return Ruling::Refused(1);
+    match tables::checks::lawful(n, a) {
+        Ok(()) => ruled(n, a, buf),
+        Err(refusal) => Ruling::Refused(refusal),
     }
-    if a.len() != n * n {
-        return Ruling::Refused(3);
-    }
-    if !tables::checks::is_legal(n, a) {
-        return Ruling::Refused(4);
-    }
-    let e = numbers::need(n as u64, tables::checks::top(a));
-    let k = numbers::lifts(n as u64);
-    match find(n, 32, k, a, buf) {
-        Finding::Whole => Ruling::Yes {
-            exponent: e,
-            lifts: k,
-        },
-        Finding::NoneModulo2 => Ruling::No {
-            exponent: e,
-            lifts: k,
-        },
-        Finding::NoneWhole => Ruling::No {
-            exponent: e,
-            lifts: k,
-        },
+}
+
+// The same for a table that is not refused.
+fn ruled(n: usize, a: &[i64], buf: &mut [i64; BUFFER]) -> Ruling
+    requires { Lawful n a.now }
+    ensures { VerdictGives n a.now (outcome_of result) × Leaves n (2 ^ 32) a.now buf.new (outcome_of result) }
+{
+    let exponent = numbers::need(n as u64, tables::checks::top(a));
+    let lifts = numbers::lifts(n as u64);
+    let lifter = Lifter {
+        n,
+        exponent: 32,
+        table: a,
+    };
+    match find(lifter, lifts, buf) {
+        Finding::Whole => Ruling::Yes { exponent, lifts },
+        Finding::NoneModulo2 | Finding::NoneWhole => Ruling::No { exponent, lifts },
     }
 }
 
@@ -162,72 +160,60 @@ pub fn verdict(n: usize, table: &[i64]) -> Ruling
     decide(n, table, &mut buf)
 }
 
-// From B_0 at the exponent e in block 0: the whole inverse there, by its two digits B_0 + 2^e·D; or false, where no whole inverse is narrow.
-fn digits(n: usize, e: u32, a: &[i64], buf: &mut [i64]) -> bool
-    requires stage { Stage n (2 ^ e) a.now buf.old }
-    requires covers { Covers (2 ^ e) 2 }
-    requires room { length buf.old ≡ 4096 }
-    ensures { Says (Summed n a.now buf.new) (NoneNarrow n a.now) result }
+// From B_0 in block 0: the whole inverse there, by its two digits B_0 + 2^e·D; or false, where no whole inverse is narrow.
+fn digits(lifter: Lifter, buf: &mut [i64; BUFFER]) -> bool
+    requires stage { Stage lifter.n (2 ^ lifter.exponent) lifter.table.now buf.old }
+    requires covers { Covers (2 ^ lifter.exponent) 2 }
+    ensures { let l = lifter.entry in Says (Summed l.n l.table.now buf.new) (NoneNarrow l.n l.table.now) result }
 {
-    lifting::base(n, e, a, buf);
+    let n = lifter.n;
+    lifter.base(buf);
     if kernels::blocks::vanishes(n, buf, 1) {
         return true;
     }
-    lifting::digit(n, e, a, buf, 1, 2);
+    lifter.digit(buf, 1, 2);
     if !kernels::blocks::vanishes(n, buf, 1) {
         return false;
     }
     if !kernels::blocks::within(n, buf, 2, MOST_DIGIT) {
         return false;
     }
-    kernels::blocks::extend(n, e, buf, 0, 2);
+    kernels::blocks::extend(n, lifter.exponent, buf, 0, 2);
     true
 }
 
 // Whether block 0 is narrow.
-fn narrow(n: usize, buf: &[i64]) -> bool
-    requires { IsOrder n × (length buf.now ≡ 4096) }
+fn narrow(n: usize, buf: &[i64; BUFFER]) -> bool
+    requires { IsOrder n }
     ensures { Tells (Narrow n (block n buf.now 0)) result }
 {
     kernels::blocks::within(n, buf, 0, numbers::WIDTH)
 }
 
-// From B_0 at the exponent e in block 0: the whole inverse there, where it is narrow.
-fn invert(n: usize, e: u32, a: &[i64], buf: &mut [i64]) -> bool
-    requires stage { Stage n (2 ^ e) a.now buf.old }
-    requires covers { Covers (2 ^ e) 2 }
-    requires room { length buf.old ≡ 4096 }
-    ensures { Says (IsNarrowInverse n (entries n a.now) (take (n * n) buf.new)) (NoneNarrow n a.now) result }
+// From B_0 in block 0: the whole inverse there, where it is narrow.
+fn invert(lifter: Lifter, buf: &mut [i64; BUFFER]) -> bool
+    requires stage { Stage lifter.n (2 ^ lifter.exponent) lifter.table.now buf.old }
+    requires covers { Covers (2 ^ lifter.exponent) 2 }
+    ensures { let l = lifter.entry in Says (IsNarrowInverse l.n (entries l.n l.table.now) (take (l.n * l.n) buf.new)) (NoneNarrow l.n l.table.now) result }
 {
-    if !digits(n, e, a, buf) {
-        return false;
-    }
-    narrow(n, buf)
+    digits(lifter, buf) && narrow(lifter.n, buf)
 }
 
 // The inverse call in a lent buffer: after 0 the table B with A·B = I stands in block 0.
-pub fn inverse_in(n: usize, table: &[i64], buf: &mut [i64]) -> Outcome
-    requires { IsOrder n × (length buf.old ≡ 4096) }
+pub fn inverse_in(n: usize, table: &[i64], buf: &mut [i64; BUFFER]) -> Outcome
+    requires { IsOrder n }
     ensures { Standing n table.now result buf.new }
 {
-    match decide(n, table, buf) {
-        Ruling::Refused(k) => Outcome {
-            number: k,
-            exponent: 0,
-            lifts: 0,
-        },
-        Ruling::No { exponent, lifts } => Outcome {
-            number: 7,
-            exponent,
-            lifts,
-        },
+    let ruling = decide(n, table, buf);
+    match ruling {
         Ruling::Yes { exponent, lifts } => {
-            if invert(n, 32, table, buf) {
-                Outcome {
-                    number: 0,
-                    exponent,
-                    lifts,
-                }
+            let lifter = Lifter {
+                n,
+                exponent: 32,
+                table,
+            };
+            if invert(lifter, buf) {
+                outcome_of(ruling)
             } else {
                 Outcome {
                     number: 8,
@@ -236,33 +222,26 @@ pub fn inverse_in(n: usize, table: &[i64], buf: &mut [i64]) -> Outcome
                 }
             }
         }
+        _ => outcome_of(ruling),
     }
 }
 
 // The table B with A·B = I, into out.
-#[tactic(auto, using(crate::proofs::Standing::left_as_it_was, crate::proofs::Standing::copied_out))]
+#[tactic(auto, using(crate::proofs::Standing::left_as_it_was))]
 pub fn inverse(n: usize, table: &[i64], out: &mut [i64]) -> Outcome
     ensures { InverseGives n table.now out.old result out.new }
 {
     if !tables::checks::is_order(n) {
-        return Outcome {
-            number: 1,
-            exponent: 0,
-            lifts: 0,
-        };
+        return Outcome::from(Refusal::Order);
     }
     if out.len() != n * n {
-        return Outcome {
-            number: 3,
-            exponent: 0,
-            lifts: 0,
-        };
+        return Outcome::from(Refusal::Length);
     }
     let mut buf = [0i64; BUFFER];
     let answer = inverse_in(n, table, &mut buf);
     if answer.number != 0 {
         return answer;
     }
-    tables::copy(n * n, &buf, out);
+    out.copy_from_slice(&buf[..n * n]);
     answer
 }

@@ -5,4 +5,4 @@ use Rattle.host.proofs.hand.Goals as goal
 pub returns : goal.returns
 returns c =
     let p = c.requires.bytes in
-    host_written p.0 p.1.0 p.1.1 (omega arith) c.read.ensures c.inverse_in-r.ensures (omega arith) c.write.ensures
+    host_written p.0 p.1.0 p.1.1 (omega arith) c.read.ensures c.inverse_in-k.ensures (omega arith) c.write.ensures

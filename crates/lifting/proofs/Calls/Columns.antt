@@ -8,10 +8,9 @@ use lib.Signed.{shr_z}
 use Rattle.numbers.specs.Remainder.{rem}
 use Rattle.numbers.proofs.Algebra.Sum.{sum_cong}
 use Rattle.numbers.proofs.Remainders.Remainder.{rem_is, balanced_size}
-use Rattle.numbers.proofs.Remainders.Moduli.{suits_modulus}
 use Rattle.tables.specs.Tables.{Matrix, ◌·⟨◌⟩◌, block, entries}
 use Rattle.kernels.specs.Kernels.{shrunk}
-use Rattle.kernels.specs.Columns.{ColumnPut, ToRemain, ToShrink}
+use Rattle.kernels.specs.Columns.{ColumnPut, ToShrink}
 use Rattle.tables.proofs.Algebra.Matrix.{≈-trans}
 use Rattle.lifting.specs.Steps.{Setting, SameColumn, digit_of, ToColumnDigit, ColumnDigited}
 use Rattle.lifting.proofs.Calls.Sizes.{low_entries, setting_some}
@@ -23,19 +22,6 @@ column-· n A P Q e i h = sum_cong n (λ k l. ap (λ z. A i k *ℤ z) (e k l))
 module _ {n X : ℕ} {A L : List ℤ} {r d : ℕ} (q : ToColumnDigit n X A L r d) where
   setting : Setting n X A
   setting = q.stage.setting
-
-  pub column_1 : ToRemain n X L 0 r d
-  column_1 = record {
-    order = setting.lawful.order;
-    modulus = suits_modulus setting.suits;
-    left = omega (arith, q.here);
-    right = q.here;
-    target = q.digit;
-    apart = q.base_d;
-    apart' = q.r_d;
-    low_left = q.stage.small;
-    low_right = q.low;
-  }
 
   module _ {L₁ : List ℤ} (p₁ : ColumnPut n (λ i. rem X ((block n L 0 ·⟨ n ⟩ block n L r) i 0)) d L L₁) where
     r₁ : SameColumn n (block n L₁ r) (block n L r)

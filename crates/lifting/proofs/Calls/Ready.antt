@@ -28,14 +28,14 @@ module _ {n s e : ℕ} {A L : List ℤ} (r : Ready n s e A (length L)) where
 -- ---- a step in the caller's buffer
 
 module _ {n s e : ℕ} {A : List ℤ} {size : ℕ} (r : Ready n s e A size) where
-  in_setting : Setting n (2 ^ e) A
+  pub in_setting : Setting n (2 ^ e) A
   in_setting = setting r.lawful r.enough r.top
 
   has : (L : List ℤ) → length L ≡ size → (b : ℕ) → b + 1 ≤ 2 * s + 2 → Has n L b
   has L z b h = omega (arith, mul-le-mul_right (n * n) h, r.room)
 
-  pub start_asks : {L : List ℤ} → length L ≡ size → HasInverseMod n 2 (entries n A) → ToStart n 2 (2 ^ e) A L
-  start_asks {L} z odd = record { setting = in_setting; work = has L z 1 (omega arith); invertible = odd }
+  pub start_asks : {L : List ℤ} → length L ≡ size → HasInverseMod n 2 (entries n A) → ToStart n 2 A L
+  start_asks {L} z odd = record { work = has L z 1 (omega arith); invertible = odd }
 
   pub step_asks : {L : List ℤ} (t : ℕ) → t < s → length L ≡ size → Upto n (2 ^ e) t (entries n A) L → ToStep n (2 ^ e) A L (2 * t + 1) (2 * t + 2) (2 * t + 3)
   step_asks {L} t l z p = record {

@@ -1,6 +1,6 @@
 -- The numbers that lift gives back, in their order.
-use mathlib.Core.Path.{◌≡◌, refl, sym, ◌∙◌}
-use mathlib.Core.Logic.{◌≢◌, ◌⊎◌, inl, inr, ⊎_elim}
+use mathlib.Core.Path.{◌≡◌, refl, ap, subst, ◌∙◌}
+use mathlib.Core.Logic.{◌⊎◌, inl, inr, ⊎_elim}
 use mathlib.Core.List.{List}
 use Prim.Native.Nat.{ℕ, ◌+◌, ◌*◌, ◌^◌, ◌≤◌, ◌<◌}
 use native.Mathlib.Nat.{le_trans}
@@ -9,12 +9,16 @@ use native.Mathlib.Decide.{dec_le}
 use native.Mathlib.Omega.{arith}
 use lib.IntN.{ℤ}
 use lib.ListN.{length}
-use Rattle.numbers.specs.Limits.{IsOrder, Legal}
-use Rattle.numbers.specs.Refusals.{Refusals, done, ◌when◌then◌, Gives, Lowest}
+use Rattle.numbers.specs.Limits.{Lawful}
+use Rattle.numbers.specs.Reasons.{refusal_number}
+use Rattle.numbers.specs.declared.refusals.Refusal.{Refusal}
+use Rattle.numbers.proofs.Answers.Reasons.{refusal_some}
+use Rattle.numbers.specs.Refusals.{Refusals, done, ◌when◌then◌, Lowest}
 use Rattle.numbers.proofs.Answers.Refusals.{Passes, passes_on, refused_stays, gives_lowest, learnt}
 use Rattle.numbers.proofs.Answers.Tables.{fit}
 use Rattle.numbers.proofs.Counting.Search.{need, need_is}
 use Rattle.tables.specs.Tables.{height, entries, HasInverseMod}
+use Rattle.tables.proofs.Checking.Heights.{height_one, legal_height}
 use Rattle.lifting.specs.Lifting.{IsExpansion, BelowNeed, input_refusals, lift_refusals, LiftGives}
 use Rattle.numbers.specs.Numbers.{Enough, IsNeed}
 use Rattle.lifting.specs.Steps.{Ready, Early}
@@ -36,50 +40,26 @@ enough_more {m = m} {e = e} k l = record { from = omega (arith, k.from); reaches
 few : {s : ℕ} → s ≤ 4 → ¬ (4 < s)
 few h l = omega arith
 
--- no number from 1 to 3 applies
-pub record Sized (n s : ℕ) (A : List ℤ) (size : ℕ) : Type 0 where
-  pub order : IsOrder n
-  pub lifts : s ≤ 4
-  pub table : length A ≡ n * n
-  pub room : size ≡ (2 * s + 2) * (n * n)
+-- what `need` asks
+pub need_asks : {n h : ℕ} {A : List ℤ} → Lawful n A → h ≡ height A → (1 ≤ n) × ((n ≤ 32) × ((1 ≤ h) × (h ≤ 2 ^ 20)))
+need_asks {A = A} law t = (law.order.from, (law.order.upto, (omega (arith, t, height_one A), omega (arith, t, legal_height A law.legal))))
 
-module _ {n s e : ℕ} {A : List ℤ} {size : ℕ} where
-  refuse : (k : ℕ) → k ≢ 0 → ((L : List ℤ) → length L ≡ size → Gives (input_refusals n s e A L) k) → Early n s e A size k
-  refuse k z g = record { ready = λ e. absurd (z e); refused = λ f. g }
+pub early_0 : {n s e size c h m : ℕ} {A : List ℤ} → Lawful n A → s ≤ 4 → c ≡ n * n → size ≡ (2 * s + 2) * c → h ≡ height A → IsNeed n h m → m ≤ e → e ≤ 32 → Early n s e A size 0
+early_0 {n} {s = s} {m = m} law l q room t k f top = record {
+  ready = λ z. record {
+    lawful = law;
+    lifts = l;
+    enough = enough_more (subst (λ (h : ℕ). IsNeed n h m) t k).holds f;
+    top = top;
+    room = room ∙ ap (λ (c : ℕ). (2 * s + 2) * c) q;
+  };
+  refused = λ z. absurd (z refl);
+}
 
-  pub early_1 : ¬ IsOrder n → Early n s e A size 1
-  early_1 f = refuse 1 (λ z. omega arith) (λ L q. inl (f, refl))
-
-  pub early_2 : IsOrder n → 4 < s → Early n s e A size 2
-  early_2 o f = refuse 2 (λ z. omega arith) (λ L q. inr (λ h. h o, inl (f, refl)))
-
-  pub early_3 : IsOrder n → s ≤ 4 → (length A ≢ n * n) ⊎ (size ≢ (2 * s + 2) * (n * n)) → Early n s e A size 3
-  early_3 o l f =
-      refuse 3 (λ z. omega arith) (λ L q. inr (λ h. h o, inr (few l, inl (⊎_elim (λ g. inl g) (λ g. inr (λ z. g (sym q ∙ z))) f, refl))))
-
-  module _ (p : Sized n s A size) where
-    pub early_4 : ¬ Legal A → Early n s e A size 4
-    early_4 f =
-        refuse 4 (λ z. omega arith) (λ L q. inr (λ h. h p.order, inr (few p.lifts, inr (fit p.table (q ∙ p.room), inl (f, refl)))))
-
-    pub early_5 : Legal A → BelowNeed n (height A) e ⊎ (32 < e) → Early n s e A size 5
-    early_5 l f =
-        refuse 5 (λ z. omega arith) (λ L q. inr (λ h. h p.order, inr (few p.lifts, inr (fit p.table (q ∙ p.room), inr (λ h. h l, inl (f, refl))))))
-
-    pub early_0 : {m : ℕ} → Legal A → IsNeed n (height A) m → m ≤ e → e ≤ 32 → Early n s e A size 0
-    early_0 l k f t = record {
-      ready = λ z. record {
-        lawful = record { order = p.order; size = p.table; legal = l };
-        lifts = p.lifts;
-        enough = enough_more k.holds f;
-        top = t;
-        room = p.room;
-      };
-      refused = λ z. absurd (z refl);
-    }
-
-  pub early_refused : {L : List ℤ} {k : ℕ} → Early n s e A size k → k ≢ 0 → length L ≡ size → LiftGives n s e A L k L
-  early_refused {L} p f q = record { number = refused_stays (input_refusals n s e A L) (last n A) f (p.refused f L q); kept = λ h. refl; written = λ z. absurd (f z) }
+pub lift_refused : {n s e : ℕ} {A L : List ℤ} (r : Refusal) → Early n s e A (length L) (refusal_number r) → LiftGives n s e A L (refusal_number r) L
+lift_refused {n} {s} {e} {A} {L} r p =
+    let f = refusal_some r in
+    record { number = refused_stays (input_refusals n s e A L) (last n A) f (p.refused f L refl); kept = λ h. refl; written = λ z. absurd (f z) }
 
 -- ---- from the lifting
 

@@ -1,6 +1,5 @@
 -- Sizes of tables, so that every sum on the way is exact: entries within 2^20, B_0 and digits within 2^31, residues within 2^25.
 use mathlib.Core.List.{List}
-use mathlib.Core.Logic.{◌≢◌}
 use Prim.Native.Nat.{ℕ, ◌+◌, ◌*◌, ◌^◌, ◌≤◌, ◌<◌}
 use native.Mathlib.Nat.{le_trans, mul-le-mul}
 use native.Mathlib.Omega.{arith}
@@ -8,9 +7,8 @@ use lib.IntN.{ℤ}
 use Rattle.numbers.specs.Limits.{IsOrder, Lawful}
 use Rattle.numbers.specs.Numbers.{Balanced}
 use Rattle.numbers.proofs.Remainders.Remainder.{rem_is, balanced_size}
-use Rattle.tables.specs.Tables.{Matrix, Below, ◌·⟨◌⟩◌, block, entries, height}
-use Rattle.tables.specs.Buffer.{Low, Has}
-use Rattle.kernels.specs.Kernels.{Product}
+use Rattle.tables.specs.Tables.{Matrix, Below, ◌·⟨◌⟩◌, entries, height}
+use Rattle.tables.specs.Buffer.{Low}
 use Rattle.tables.proofs.Checking.Heights.{height_at, legal_height}
 use Rattle.lifting.specs.Steps.{Setting, rems}
 use Rattle.lifting.proofs.Expansions.Stands.{Stands}
@@ -46,14 +44,3 @@ stands_low {n} {A} law q = record {
 
 pub product_room : {n : ℕ} {A B : Matrix} → IsOrder n → Low n (2 ^ 31) A → Low n (2 ^ 25) B → Low n (2 ^ 62) (A ·⟨ n ⟩ B)
 product_room o a b = low_product (2 ^ 62) a b (omega (arith, o.upto))
-
-pub product_asks : {n : ℕ} {L : List ℤ} {p q o : ℕ} → IsOrder n → Has n L p → Has n L q → Has n L o → p ≢ o → q ≢ o → Low n (2 ^ 31) (block n L p) → Low n (2 ^ 25) (block n L q) → Product n L p q o
-product_asks order left right target f g a b = record {
-  order = order;
-  left = left;
-  right = right;
-  target = target;
-  apart = f;
-  apart' = g;
-  exact = record { c = 2 ^ 31; d = 2 ^ 25; left = a; right = b; room = omega (arith, order.upto) };
-}

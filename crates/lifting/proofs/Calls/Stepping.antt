@@ -10,18 +10,17 @@ use Rattle.numbers.specs.Limits.{IsOrder}
 use Rattle.numbers.specs.Numbers.{Cong}
 use Rattle.numbers.specs.Remainder.{rem}
 use Rattle.numbers.proofs.Remainders.Congruence.{cong_down}
-use Rattle.numbers.proofs.Remainders.Moduli.{suits_modulus}
 use Rattle.numbers.proofs.Remainders.Remainder.{rem_is}
 use Rattle.numbers.proofs.Algebra.Sum.{δ}
 use Rattle.tables.specs.Tables.{Matrix, ◌≈⟨◌⟩◌, ◌·⟨◌⟩◌, CongM, block, entries}
 use Rattle.tables.specs.Buffer.{Low, Has, BlockPut}
-use Rattle.kernels.specs.Kernels.{Product, Remain, Balance, Shrink, shrunk}
+use Rattle.kernels.specs.Kernels.{Shrink, shrunk}
 use Rattle.eliminations.specs.Inverting.{Inverted}
 use Rattle.tables.proofs.Buffers.Bounds.{low-≈}
 use Rattle.tables.proofs.Algebra.Matrix.{≈-refl, ≈-sym, ≈-trans, ·-cong, ·-idʳ, ⊟-cong, cong_m_eq, cong_m_trans}
 use Rattle.lifting.specs.Lifting.{IsDigit}
 use Rattle.lifting.specs.Steps.{Setting, Stage, ToStep, Stepped, ToDigit, Digited, ToBase, ToStart, Started, rems}
-use Rattle.lifting.proofs.Calls.Sizes.{setting_some, low_more, low_rems, low_entries, product_room, product_asks}
+use Rattle.lifting.proofs.Calls.Sizes.{setting_some, low_more, low_rems, low_entries, product_room}
 use Rattle.lifting.proofs.Expansions.Bound.{δ_size}
 use Rattle.lifting.proofs.Expansions.Rules.{digit_resp, digit_exists, digit_start}
 
@@ -61,18 +60,6 @@ module _ {n X : ℕ} {A L : List ℤ} {r d : ℕ} (q : ToDigit n X A L r d) wher
   setting : Setting n X A
   setting = q.stage.setting
 
-  pub digit_1 : Remain n X L 0 r d
-  digit_1 = record {
-    order = setting.lawful.order;
-    modulus = suits_modulus setting.suits;
-    left = omega (arith, q.here);
-    right = q.here;
-    target = q.digit;
-    apart = q.base_d;
-    low_left = low_more (omega arith) q.stage.small;
-    low_right = q.low;
-  }
-
   module _ {L₁ : List ℤ} (p₁ : BlockPut n (rems X (block n L 0 ·⟨ n ⟩ block n L r)) d L L₁) where
     r₁ : block n L₁ r ≈⟨ n ⟩ block n L r
     r₁ = p₁.rest r q.r_d
@@ -99,9 +86,6 @@ module _ {n X : ℕ} {A L : List ℤ} {r m s : ℕ} (q : ToStep n X A L r m s) w
   R_low : Low n (2 ^ 31) (block n L r)
   R_low = low_more (omega arith) q.low
 
-  pub step_1 : Product n L r r s
-  step_1 = product_asks order q.here q.here q.next q.r_s q.r_s R_low q.low
-
   module _ {L₁ : List ℤ} (p₁ : BlockPut n (block n L r ·⟨ n ⟩ block n L r) s L L₁) where
     base₁ : block n L₁ 0 ≈⟨ n ⟩ block n L 0
     base₁ = p₁.rest 0 q.base_s
@@ -126,17 +110,9 @@ module _ {n X : ℕ} {A L : List ℤ} {r m s : ℕ} (q : ToStep n X A L r m s) w
 
 -- ---- B_0 and R_0, from an inverse modulo X: a digit of I
 
-module _ {n X : ℕ} {A L : List ℤ} (q : ToBase n X A L) {L₁ : List ℤ} (p₁ : BlockPut n δ 1 L L₁) where
+module _ {n X : ℕ} {A L : List ℤ} (setting : Setting n X A) (q : ToBase n X A L) {L₁ : List ℤ} (p₁ : BlockPut n δ 1 L L₁) where
   c₁ : block n L₁ 0 ≈⟨ n ⟩ block n L 0
   c₁ = p₁.rest 0 (λ z. omega arith)
-
-  pub base_2 : Balance n X L₁ 0
-  base_2 = record {
-    order = q.setting.lawful.order;
-    modulus = suits_modulus q.setting.suits;
-    target = omega (arith, q.work, p₁.long);
-    room = low-≈ (≈-sym c₁) q.low;
-  }
 
   module _ {L₂ : List ℤ} (p₂ : BlockPut n (rems X (block n L₁ 0)) 0 L₁ L₂) where
     one₂ : block n L₂ 1 ≈⟨ n ⟩ δ
@@ -144,31 +120,23 @@ module _ {n X : ℕ} {A L : List ℤ} (q : ToBase n X A L) {L₁ : List ℤ} (p�
 
     pub base_3 : Shrink n X A L₂ 0 1 × Low n (2 ^ 62) (block n L₂ 1)
     base_3 = (
-      shrink_asks q.setting (omega (arith, q.work, p₁.long, p₂.long)) (omega (arith, q.work, p₁.long, p₂.long)) (λ z. omega arith) (low-≈ (≈-sym p₂.there) (low_rems (block n L₁ 0) (setting_some q.setting) q.setting.suits.upto)),
+      shrink_asks setting (omega (arith, q.work, p₁.long, p₂.long)) (omega (arith, q.work, p₁.long, p₂.long)) (λ z. omega arith) (low-≈ (≈-sym p₂.there) (low_rems (block n L₁ 0) (setting_some setting) setting.suits.upto)),
       low-≈ (≈-sym one₂) (record { low = λ i j a b. omega (arith, δ_size i j) }),
     )
 
     pub base_done : {L₃ : List ℤ} → BlockPut n (shrunk n X A L₂ 0 1) 1 L₂ L₃ → Started n X (entries n A) L L₃
     base_done p₃ = record {
       long = p₃.long ∙ p₂.long ∙ p₁.long;
-      start = digit_start (digit_found X A L₂ (block n L 0) δ (setting_some q.setting) q.right (λ z. omega arith) (≈-trans p₂.there (λ i j a b. ap (rem X) (c₁ i j a b ∙ sym (·-idʳ n (block n L 0) i j a b)))) one₂ p₃);
+      start = digit_start (digit_found X A L₂ (block n L 0) δ (setting_some setting) q.right (λ z. omega arith) (≈-trans p₂.there (λ i j a b. ap (rem X) (c₁ i j a b ∙ sym (·-idʳ n (block n L 0) i j a b)))) one₂ p₃);
       rest = λ b l. ≈-trans (p₃.rest b (λ z. omega arith)) (≈-trans (p₂.rest b (λ z. omega arith)) (p₁.rest b (λ z. omega arith)));
     }
 
 -- ---- from nothing: an inverse modulo Y is one modulo X, which divides Y
 
-module _ {n p X Y : ℕ} {A L : List ℤ} (q : ToStart n p X A L) {L₁ : List ℤ} (p₁ : Inverted n Y (entries n A) 0 L L₁) (divides : Cong (pos X) (pos Y) (pos 0)) where
+module _ {n p X Y : ℕ} {A L : List ℤ} (q : ToStart n p A L) {L₁ : List ℤ} (p₁ : Inverted n Y (entries n A) 0 L L₁) (divides : Cong (pos X) (pos Y) (pos 0)) where
   pub start_2 : ToBase n X A L₁
   start_2 = record {
-    setting = q.setting;
     work = omega (arith, q.work, p₁.long);
     right = λ i j a b. cong_down (p₁.right i j a b) divides;
     low = low_more (omega arith) p₁.low;
-  }
-
-  pub start_done : {L₂ : List ℤ} → Started n X (entries n A) L₁ L₂ → Started n X (entries n A) L L₂
-  start_done p₂ = record {
-    long = p₂.long ∙ p₁.long;
-    start = p₂.start;
-    rest = λ b l. ≈-trans (p₂.rest b l) (p₁.rest b (λ z. omega arith));
   }

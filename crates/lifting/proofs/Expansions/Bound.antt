@@ -9,8 +9,7 @@ use native.Mathlib.Nat.{mul-le-mul_left, mul-le-mul, mul-pos, le_refl}
 use lib.Dec.{eqb}
 use lib.IntN.{ℤ, pos, nat_abs, ◌*ℤ◌}
 use Rattle.numbers.specs.Numbers.{Balanced}
-use Rattle.numbers.proofs.Algebra.IntRing.{nat_abs-*ℤ}
-use Rattle.numbers.proofs.Algebra.IntOrder.{nat_abs-+ℤ, nat_abs_sub}
+use Rattle.std.proofs.lemmas.Int.{ints, unsigned_abs-mul}
 use Rattle.numbers.proofs.Remainders.Remainder.{balanced_size}
 use Rattle.numbers.proofs.Algebra.Sum.{δ}
 use Rattle.tables.specs.Tables.{Matrix, Below, ◌⊞◌, ◌⊙◌, ◌·⟨◌⟩◌, block}
@@ -32,7 +31,7 @@ quotient_bound : (X y : ℕ) (r z : ℤ) → z ≡ pos X *ℤ r → 5 * nat_abs 
 quotient_bound X y r z e l = elim (dec_le (5 * nat_abs r) (3 * y)) [ yes h ↦ h | no f ↦ absurd (more f) ]
   where
     more : ¬ (5 * nat_abs r ≤ 3 * y) → ⊥
-    more f = let h : 3 * y + 1 ≤ 5 * nat_abs r = omega arith in omega (arith, mul-le-mul_left X h, ap nat_abs e, nat_abs-*ℤ (pos X) r)
+    more f = let h : 3 * y + 1 ≤ 5 * nat_abs r = omega arith in omega (arith, mul-le-mul_left X h, ap nat_abs e, unsigned_abs-mul (pos X) r)
 
 -- 25·|B·R| ≤ 9·n·x·y where 5·|B| ≤ 3·x and 5·|R| ≤ 3·y
 product_bound : (n x y : ℕ) (B R : Matrix) → Below n (λ i j. 5 * nat_abs (B i j) ≤ 3 * x) → Below n (λ i j. 5 * nat_abs (R i j) ≤ 3 * y) → Below n (λ i j. 25 * nat_abs ((B ·⟨ n ⟩ R) i j) ≤ 9 * (n * (x * y)))
@@ -65,7 +64,7 @@ module _ (n h X : ℕ) (wide : 60 ≤ X) (A : Matrix) (low : Below n (λ i j. na
         quotient_bound X (n * h) (T i j) _ (p.residue i j a b)
         (omega (
           arith,
-          nat_abs_sub (R i j) ((A ·⟨ n ⟩ D) i j),
+          ints,
           small i j a b,
           balanced_bound D (λ i j a b. (p.remainder i j a b).balanced) i j a b,
         ))
@@ -74,8 +73,8 @@ module _ (n h X : ℕ) (wide : 60 ≤ X) (A : Matrix) (low : Below n (λ i j. na
     digit_size x C small i j a b =
         omega (
           arith,
-          nat_abs-+ℤ (C i j) (pos x *ℤ D i j),
-          nat_abs-*ℤ (pos x) (D i j),
+          ints,
+          unsigned_abs-mul (pos x) (D i j),
           small i j a b,
           mul-le-mul_left x (balanced_size (D i j) (p.remainder i j a b).balanced),
         )
@@ -112,9 +111,9 @@ module _ (n h X : ℕ) (wide : 60 ≤ X) (A : Matrix) (low : Below n (λ i j. na
       small i j a b =
           omega (
             arith,
+            ints,
             ap nat_abs (matrix n 1 2 (λ x C R. C ·ᵉ (𝟙 ⊞ᵉ x ⊙ᵉ R) ≑ C ⊞ᵉ x ⊙ᵉ (C ·ᵉ R)) tt (pos x) C R i j a b),
-            nat_abs-+ℤ (C i j) (pos x *ℤ (C ·⟨ n ⟩ R) i j),
-            nat_abs-*ℤ (pos x) ((C ·⟨ n ⟩ R) i j),
+            unsigned_abs-mul (pos x) ((C ·⟨ n ⟩ R) i j),
             s.size i j a b,
             mul-le-mul_left x (product_bound n x (n * h) C R s.size s.residue i j a b),
             mul-le-mul_left (x * x) enough,

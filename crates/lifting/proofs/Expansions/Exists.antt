@@ -1,6 +1,6 @@
 -- An expansion of every number of lifts exists where A has an inverse modulo X: two blocks more for each lift.
 use mathlib.Core.Path.{◌≡◌, sym, ap, ap₂, subst, ◌∙◌}
-use mathlib.Core.List.{List, [], ◌++◌}
+use mathlib.Core.List.{List, [], ◌++◌, map}
 use Prim.Native.Nat.{ℕ, zero, suc, ◌+◌, ◌*◌, ◌/◌, ◌%◌, ◌<◌}
 use native.Mathlib.Nat.{zero-mul}
 use native.Mathlib.Omega.{arith}
@@ -8,9 +8,10 @@ use lib.Arith.{digits_lt, digits_div, digits_mod}
 use lib.IntN.{ℤ, pos}
 use lib.ListN.{length, get_or, length-append, get_or-append}
 use lib.Seq.{get_or-append-add}
+use Rattle.std.specs.List.{range_with_len}
+use Rattle.std.proofs.lemmas.List.FromFn.{length-map-range_with_len, get_or-map-range_with_len}
 use Rattle.tables.specs.Tables.{Matrix, ◌≈⟨◌⟩◌, block, HasInverseMod}
 use Rattle.tables.proofs.Algebra.Matrix.{≈-trans}
-use Rattle.tables.proofs.Algebra.Rows.{values, length_values, get_d_values}
 use Rattle.lifting.specs.Lifting.{IsStart, IsStep, IsExpansion}
 use Rattle.lifting.proofs.Expansions.Rules.{start_right, start_resp, step_resp, start_exists, step_exists}
 use Rattle.lifting.proofs.Expansions.Upto.{upto_first, upto_more, upto_resp}
@@ -25,11 +26,11 @@ push : (n c : ℕ) (F : Matrix) (L : List ℤ) → length L ≡ c * (n * n) → 
 push n c F L e = (
   L ++ T,
   record {
-    long = omega (arith, length-append L T, length_values (n * n) f);
+    long = omega (arith, length-append L T, length-map-range_with_len f 0 (n * n));
     rest = λ b l i j h k. sym (get_or-append L T (pos 0) (b * (n * n) + (i * n + j)) (subst (λ (m : ℕ). b * (n * n) + (i * n + j) < m) (sym e) (digits_lt l (digits_lt h k))));
     last = λ i j h k. sym
         (ap (λ (m : ℕ). get_or (L ++ T) (m + (i * n + j)) (pos 0)) (sym e) ∙ get_or-append-add L T (i * n + j) (pos 0)
-        ∙ get_d_values (n * n) f (pos 0) (i * n + j) (digits_lt h k) ∙ ap₂ F (digits_div i k) (digits_mod i k));
+        ∙ get_or-map-range_with_len f 0 (n * n) (i * n + j) (i * n + j) (pos 0) (digits_lt h k) (omega arith) ∙ ap₂ F (digits_div i k) (digits_mod i k));
   },
 )
   where
@@ -37,7 +38,7 @@ push n c F L e = (
     f k = F (k / n) (k % n)
 
     T : List ℤ
-    T = values (n * n) f
+    T = map f (range_with_len 0 (n * n))
 
 module _ (n X : ℕ) (A : Matrix) where
   first : {B R : Matrix} → IsStart n X A B R → (L : List ℤ) × IsExpansion n X 0 A L

@@ -7,6 +7,10 @@ use native.Mathlib.Omega.{arith}
 use native.Mathlib.Decide.{dec_lt, ℕ_discrete}
 use lib.IntN.{ℤ}
 use lib.Pow.{pow_pos}
+use Rattle.std.specs.Prelude.{Result}
+use Rattle.numbers.specs.Reasons.{number_of}
+use Rattle.numbers.specs.declared.refusals.Refusal.{Refusal}
+use Rattle.numbers.proofs.Answers.Reasons.{answer_unique}
 use Rattle.numbers.proofs.Answers.Refusals.{gives_unique}
 use Rattle.tables.specs.Tables.{Matrix, ◌≈⟨◌⟩◌, entries, block}
 use Rattle.tables.proofs.Buffers.Lists.{blocks_unique}
@@ -51,3 +55,7 @@ lift_unique {n} {s} {e} {A} {L} {j} {k} {E} {F} p q = (
   where
     same : j ≡ k
     same = gives_unique (lift_refusals n s e A L) p.number q.number
+
+-- and so one case of the answer
+pub lift_result_unique : {n s e : ℕ} {A L : List ℤ} (a b : Result (Unit {0}) Refusal) {E F : List ℤ} → LiftGives n s e A L (number_of a) E → LiftGives n s e A L (number_of b) F → (a ≡ b) × (E ≡ F)
+lift_result_unique a b p q = let u = lift_unique p q in (answer_unique a b u.0, u.1)

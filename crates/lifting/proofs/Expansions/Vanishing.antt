@@ -5,7 +5,7 @@ use Prim.Native.Nat.{ℕ, zero, suc, ◌+◌, ◌*◌, ◌≤◌, ◌<◌}
 use native.Mathlib.Omega.{arith}
 use lib.IntN.{ℤ, pos}
 use Rattle.numbers.specs.Numbers.{Balanced}
-use Rattle.numbers.proofs.Algebra.IntLinear.{integers, minus}
+use Rattle.std.proofs.lemmas.Int.{ints}
 use Rattle.numbers.proofs.Algebra.RingSolver.{◌⊗◌}
 use Rattle.numbers.proofs.Remainders.Congruence.{cong_of_eq}
 use Rattle.tables.specs.Tables.{Matrix, ◌≈⟨◌⟩◌, block}
@@ -21,7 +21,7 @@ residue_unique {n} {X} {A} h (first p) (first q) = start_unique n X h A p q
 residue_unique {n} {X} {A} h (later p a) (later q b) = let u = residue_unique h p q in (u.0, (step_unique n X h A u.0 u.1 a b).1)
 
 zero_balanced : (X : ℕ) → 0 < X → Balanced X (pos 0)
-zero_balanced X h = record { above = omega (arith, integers, minus (pos X)); upto = omega (arith, integers) }
+zero_balanced X h = record { above = omega (arith, ints); upto = omega (arith, ints) }
 
 -- the digit of 0 is 0, and so is the residue after it
 zero_digit : (n X : ℕ) → 0 < X → (A B : Matrix) → IsDigit n X A B 𝟘 𝟘 𝟘

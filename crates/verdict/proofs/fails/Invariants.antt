@@ -1,10 +1,7 @@
-use Rattle.lifting.proofs.Calls.Following.{Follows}
+use Rattle.std.proofs.Common.{◌^◌}
 use Rattle.numbers.proofs.Algebra.Sum.{δ}
-use Prim.Native.Nat.{◌-◌, ◌^◌, ◌≤◌}
+use Rattle.lifting.proofs.Calls.Following.{Follows}
 use Rattle.verdict.proofs.fails.Given as goal
 
-abbrev pub invariant-loop-t : goal.invariant-loop-t
-invariant-loop-t l = (l.t ≤ l.n) × Follows l.n (2 ^ l.e) l.a δ l.initial.buf l.t l.buf
-
-abbrev pub decreases-loop-t : goal.decreases-loop-t
-decreases-loop-t l = l.n - l.t
+abbrev pub invariant-loop : goal.invariant-loop
+invariant-loop l = Follows l.n (2 ^ l.lifter.exponent) l.lifter.table.now δ l.initial.buf l.counter l.buf

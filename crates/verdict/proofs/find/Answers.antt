@@ -8,27 +8,26 @@ use native.Mathlib.Omega.{arith}
 use mathlib.Core.Path.{◌≡◌, refl, ◌∙◌}
 use Rattle.verdict.proofs.find.Goals as goal
 
-pub loop-t-init : goal.loop-t-init
-loop-t-init c =
-    let b = c.start.ensures in
+pub loop-init : goal.loop-init
+loop-init c =
     let f = c.fails.ensures in
-    (omega arith, (f.long ∙ b.long ∙ c.requires.room, ((refl, (omega arith, omega arith)), holds_first (start_resp b.start (≈-sym (f.rest 0 (omega arith))) (≈-sym (f.rest 1 (omega arith)))))))
+    (c.fails.array_long, ((refl, (omega arith, omega arith)), holds_first (start_resp c.start.ensures.start (≈-sym (f.rest 0 (omega arith))) (≈-sym (f.rest 1 (omega arith))))))
 
 pub returns-then-vanishes : goal.returns-then-vanishes
 returns-then-vanishes c =
-    judged_yes c.requires.setting c.loop-t.invariant.1.1.1 (c.vanishes.ensures.yes c.if-vanishes.true)
+    judged_yes c.args.lifter.setting c.loop.invariant.1.1 (c.vanishes.ensures.yes c.if-vanishes.true)
 
 pub step-requires : goal.step-requires
 step-requires c =
-    let g = c.requires.setting in
-    let v = c.loop-t.invariant in
+    let g = c.args.lifter.setting in
+    let v = c.loop.invariant in
     let m = g.lawful.order.upto in
     record {
-      stage = holds_stage g v.1.1.1;
-      here = in_buffer c.loop-t.r m (omega arith) v.1.0;
-      low = holds_low g v.1.1.1;
-      digit = in_buffer 3 m (omega arith) v.1.0;
-      next = in_buffer c.loop-t.s m (omega arith) v.1.0;
+      stage = holds_stage g v.1.1;
+      here = in_buffer c.loop.r m (omega arith) v.0;
+      low = holds_low g v.1.1;
+      digit = in_buffer 3 m (omega arith) v.0;
+      next = in_buffer c.loop.s m (omega arith) v.0;
       r_m = λ e. omega arith;
       r_s = λ e. omega arith;
       m_s = λ e. omega arith;
@@ -36,18 +35,18 @@ step-requires c =
       base_s = λ e. omega arith;
     }
 
-pub loop-t-preserved : goal.loop-t-preserved
-loop-t-preserved c =
-    let v = c.loop-t.invariant in
+pub loop-preserved : goal.loop-preserved
+loop-preserved c =
+    let v = c.loop.invariant in
     let q = c.step.ensures in
-    (omega arith, (q.long ∙ v.1.0, ((omega arith, (omega arith, omega arith)), rw add-one (holds_step (λ e. omega arith) (λ e. omega arith) v.1.1.1 q))))
+    (q.long ∙ v.0, ((omega arith, (omega arith, omega arith)), rw (c.swap.ensures.x_after, add-one) (holds_step (λ e. omega arith) (λ e. omega arith) v.1.1 q)))
 
 pub returns-then-gone : goal.returns-then-gone
 returns-then-gone c =
-    judged_yes c.requires.setting c.loop-t.invariant.1.1.1 (c.vanishes-gone.ensures.yes c.if-gone.true)
+    judged_yes c.args.lifter.setting c.loop.invariant.1.1 (c.vanishes-gone.ensures.yes c.if-gone.true)
 
 -- all k(n) steps are done
 pub returns : goal.returns
 returns c =
-    let e : c.loop-t.t ≡ c.args.k = omega arith in
-    (c.has_inverse.ensures.yes c.if-not-has_inverse.false, judged_no c.requires.setting (rw e at c.loop-t.invariant.1.1.1) c.requires.lifts.holds (c.vanishes-gone.ensures.no c.if-gone.false))
+    let e : c.loop.counter ≡ c.args.k = omega arith in
+    (c.has_inverse.ensures.yes c.if-not-has_inverse.false, judged_no c.args.lifter.setting (rw e at c.loop.invariant.1.1) c.requires.holds (c.vanishes-gone.ensures.no c.if-gone.false))
