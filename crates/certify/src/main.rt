@@ -15,7 +15,7 @@ fn main(rt: HostRuntime) {
 }
 
 // Puts the report of an input into out, of which so many bytes are read into the text; gives the count of the report's bytes.
-fn answer(text: &[u8], read: usize, out: &mut [u8]) -> usize
+fn answer(text: &[u8; TEXT_MOST], read: usize, out: &mut [u8; reports::ROOM]) -> usize
     requires { Asked text.now read out.old }
     ensures { Prints text.now read out.new result }
 {

@@ -13,8 +13,8 @@ use Rattle.verdict.specs.Verdict.{answer}
 use Rattle.verdict.specs.Starred.{minus, thin}
 use Rattle.verdict.proofs.Tight.{inverse_of_thin}
 use Rattle.sheets.specs.Sheet.{decimal, sheet}
-use Rattle.sheets.specs.declared.Answer.{Answer}
-use Rattle.sheets.specs.declared.Answer.TheVariants.{Sheet}
+use Rattle.sheets.specs.declared.Refusal.{Refusal}
+use Rattle.std.specs.Prelude.{Result, Ok}
 use Rattle.sheets.proofs.RoundTrip.{read_back}
 use Rattle.reports.specs.Report.{certificate, IsCertificate, IsReport}
 use Rattle.reports.proofs.Reading.{blank, blank_size, Shows, reading}
@@ -25,7 +25,7 @@ sheet_certified n es R law h =
     let r = reading (sheet n es) R h in
     let u = read_back n es blank r.left r.answer law.order law.size law.legal blank_size r.says in
     subst (λ (x : List ℤ). IsCertificate n x R) (take_at es (drop (n * n) blank) (n * n) law.size)
-    (subst (λ (E : List ℤ). Shows (Sheet n) E R) u.1 (subst (λ (a : Answer). Shows a r.left R) u.0 r.shows))
+    (subst (λ (E : List ℤ). Shows (Ok n) E R) u.1 (subst (λ (a : Result ℕ Refusal). Shows a r.left R) u.0 r.shows))
 
 abbrev bytes : String → List ℕ
 bytes none = []

@@ -13,8 +13,9 @@ use Rattle.sheets.specs.Place.{line_at, column_at}
 use Rattle.sheets.specs.Answer.{NoSheet, byte, ended, ReadSays, read, refused, figures_of, place_of}
 use Rattle.sheets.specs.declared.Place.{Place}
 use Rattle.sheets.specs.declared.Reason.TheVariants.{Byte, End}
-use Rattle.sheets.specs.declared.Answer.{Answer}
-use Rattle.sheets.specs.declared.Answer.TheVariants.{Sheet, Length, Refused}
+use Rattle.sheets.specs.declared.Refusal.{Refusal}
+use Rattle.sheets.specs.declared.Refusal.TheVariants.{Length, Text}
+use Rattle.std.specs.Prelude.{Result, Ok, Err}
 use Rattle.sheets.proofs.Uses.{Means, read_means}
 use Rattle.reports.specs.Report.{figures, IsCertificate, IsReport, no_sheet, of_sheet}
 
@@ -25,20 +26,20 @@ pub blank_size : length blank ≡ 1024
 unfolding blank
 blank_size = length-replicate 1024 (pos 0)
 
-abbrev pub Shows : Answer → List ℤ → List ℕ → Type 0
-Shows (Sheet n) E R = IsCertificate n (take (n * n) E) R
-Shows Length E R = ⊥
-Shows (Refused p) E R = R ≡ line (figures (9 ∷ place_of p))
+abbrev pub Shows : Result ℕ Refusal → List ℤ → List ℕ → Type 0
+Shows (Ok n) E R = IsCertificate n (take (n * n) E) R
+Shows (Err Length) E R = ⊥
+Shows (Err (Text p)) E R = R ≡ line (figures (9 ∷ place_of p))
 
 pub record Reading (t R : List ℕ) : Type 0 where
-  pub answer : Answer
+  pub answer : Result ℕ Refusal
   pub left : List ℤ
   pub says : ReadSays t blank (figures_of answer) left
   pub shows : Shows answer left R
 
 -- a refusal's figures are a place's
 at_place : (t R : List ℕ) (p : Place) → NoSheet t (place_of p) → R ≡ line (figures (9 ∷ place_of p)) → Reading t R
-at_place t R p h e = record { answer = Refused p; left = blank; says = refused (place_of p) blank_size h; shows = e }
+at_place t R p h e = record { answer = Err (Text p); left = blank; says = refused (place_of p) blank_size h; shows = e }
 
 read_refused : (t fs : List ℕ) → NoSheet t fs → Reading t (line (figures (9 ∷ fs)))
 read_refused t fs (byte k l b d) = at_place t _ (record { line = line_at t k; column = column_at t k; reason = Byte }) (byte k l b d) refl
@@ -47,7 +48,7 @@ read_refused t fs (ended b d) = at_place t _ (record { line = line_at t (length 
 pub reading : (t R : List ℕ) → IsReport t R → Reading t R
 reading t R (no_sheet fs h) = read_refused t fs h
 reading t R (of_sheet n es R' h c) = record {
-  answer = Sheet n;
+  answer = Ok n;
   left = es ++ drop (n * n) blank;
   says = read n es blank_size h;
   shows = subst (λ (x : List ℤ). IsCertificate n x R) (sym (take_at es (drop (n * n) blank) (n * n) h.count)) c;
@@ -56,7 +57,7 @@ reading t R (of_sheet n es R' h c) = record {
 pub reported : (t R : List ℕ) → Reading t R → IsReport t R
 reported t R r = go r.answer (read_means t blank r.left r.answer blank_size r.says) r.shows
   where
-    go : (a : Answer) → Means t a r.left → Shows a r.left R → IsReport t R
-    go (Sheet n) m s = of_sheet n (take (n * n) r.left) R m s
-    go Length m s = absurd s
-    go (Refused p) m s = subst (IsReport t) (sym s) (no_sheet (place_of p) m)
+    go : (a : Result ℕ Refusal) → Means t a r.left → Shows a r.left R → IsReport t R
+    go (Ok n) m s = of_sheet n (take (n * n) r.left) R m s
+    go (Err Length) m s = absurd s
+    go (Err (Text p)) m s = subst (IsReport t) (sym s) (no_sheet (place_of p) m)

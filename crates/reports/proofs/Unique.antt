@@ -12,8 +12,9 @@ use Rattle.verdict.specs.Verdict.{inverse_refusals, InverseGives}
 use Rattle.verdict.specs.declared.Outcome.{Outcome}
 use Rattle.verdict.proofs.Unique.{inverse_call_unique}
 use Rattle.sheets.specs.Sheet.{rows}
-use Rattle.sheets.specs.declared.Answer.{Answer}
-use Rattle.sheets.specs.declared.Answer.TheVariants.{Sheet, Length, Refused}
+use Rattle.sheets.specs.declared.Refusal.{Refusal}
+use Rattle.sheets.specs.declared.Refusal.TheVariants.{Length, Text}
+use Rattle.std.specs.Prelude.{Result, Ok, Err}
 use Rattle.sheets.proofs.Unique.{read_unique}
 use Rattle.reports.specs.Report.{answer_line, certificate, IsCertificate, IsReport, ReportGives, no_room, room}
 use Rattle.reports.proofs.Writing.{after_other}
@@ -47,10 +48,10 @@ certificate_unique {n} {es} c d = c.text ∙ go (ℕ_discrete d.outcome.number 0
         let u = inverse_call_unique c.gives (lent_kept c.lent same d.gives f) in
         ap₂ (certificate n) u.0 refl ∙ certificate_other n d.outcome c.left d.left f
 
-shows_unique : (a : Answer) (E : List ℤ) (R R' : List ℕ) → Shows a E R → Shows a E R' → R ≡ R'
-shows_unique (Sheet n) E R R' r s = certificate_unique r s
-shows_unique Length E R R' r s = absurd r
-shows_unique (Refused p) E R R' r s = r ∙ sym s
+shows_unique : (a : Result ℕ Refusal) (E : List ℤ) (R R' : List ℕ) → Shows a E R → Shows a E R' → R ≡ R'
+shows_unique (Ok n) E R R' r s = certificate_unique r s
+shows_unique (Err Length) E R R' r s = absurd r
+shows_unique (Err (Text p)) E R R' r s = r ∙ sym s
 
 pub report_unique : {t R R' : List ℕ} → IsReport t R → IsReport t R' → R ≡ R'
 report_unique {t} {R} {R'} h k =
@@ -58,7 +59,7 @@ report_unique {t} {R} {R'} h k =
     let s = reading t R' k in
     let u = read_unique t blank s.left r.left s.answer r.answer s.says r.says in
     shows_unique r.answer r.left R R' r.shows
-    (subst (λ (a : Answer). Shows a r.left R') u.0 (subst (λ (E : List ℤ). Shows s.answer E R') u.1 s.shows))
+    (subst (λ (a : Result ℕ Refusal). Shows a r.left R') u.0 (subst (λ (E : List ℤ). Shows s.answer E R') u.1 s.shows))
 
 pub report_call_unique : {t old new new' : List ℕ} {r r' : ℕ} → ReportGives t old r new → ReportGives t old r' new' → (r ≡ r') × (new ≡ new')
 report_call_unique (no_room l) (no_room m) = (refl, refl)

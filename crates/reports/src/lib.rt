@@ -1,7 +1,7 @@
 // The report of a text: what the program `certify` prints for it.
 #![tactic(auto)]
 
-ghost use Rattle.std.specs.Prelude.{◌≡◌, [], ◌∷◌, ◌*◌, ◌≤◌, length, take};
+ghost use Rattle.std.specs.Prelude.{[], ◌∷◌, ◌≤◌};
 ghost use Rattle.numbers.specs.Limits.{IsOrder};
 ghost use Rattle.sheets.specs.Sheet.{line};
 ghost use Rattle.sheets.specs.Answer.{place_of};
@@ -9,14 +9,18 @@ ghost use Rattle.sheets.specs.Writing.{Put};
 ghost use Rattle.reports.specs.Report.{figures, IsCertificate, IsReport, ReportGives};
 ghost use Rattle.reports.specs.Parts.{Puts};
 
+use sheets::Refusal;
+
 // So many bytes have room for every report.
 pub const ROOM: usize = 14352;
 
 // Puts the report of the text at the start of out and gives the count of its bytes; in less room than every report needs, puts nothing and gives 0.
+#[tactic(auto, using(crate::specs::Report::no_room, crate::proofs::Lengths::report_put))]
 pub fn report(text: &[u8], out: &mut [u8]) -> usize
     ensures { ReportGives text.now out.old result out.new }
 {
     if out.len() < ROOM {
+        // no report is empty, so 0 says that there is none (`ReportGives`)
         return 0;
     }
     put_report(text, out)
@@ -28,9 +32,10 @@ fn put_report(text: &[u8], out: &mut [u8]) -> usize
 {
     let mut table = [0i64; numbers::MOST_CELLS];
     match sheets::read(text, &mut table) {
-        sheets::Answer::Sheet(n) => put_certificate(n, &table, out),
-        sheets::Answer::Refused(p) => put_refusal(p, out),
-        sheets::Answer::Length => 0,
+        Ok(n) => certify(n, &table[..n * n], out),
+        Err(Refusal::Text(p)) => put_refusal(p, out),
+        // does not come: the table has the right length
+        Err(Refusal::Length) => 0,
     }
 }
 
@@ -39,27 +44,20 @@ fn put_refusal(p: sheets::Place, out: &mut [u8]) -> usize
     requires { (p.line ≤ 9220) × (p.column ≤ 9220) }
     ensures { Put out.old 0 (line (figures (9 ∷ place_of p))) result out.new }
 {
+    // `u32` has no `From` of a `usize`: these casts are proved to lose nothing
     let row = p.line as u32;
     let column = p.column as u32;
-    let reason = p.reason;
-    put_four(9, row, column, reason.number(), out)
+    put_four(9, row, column, p.reason.number(), out)
 }
 
-// The lines of a sheet, whose entries stand first in the table.
-fn put_certificate(n: usize, table: &[i64], out: &mut [u8]) -> usize
-    requires { IsOrder n × (length table.now ≡ 1024) }
-    ensures { Puts (IsCertificate n (take (n * n) table.now)) out.old result out.new }
-{
-    let cells = n * n;
-    let mut inverse = [0i64; numbers::MOST_CELLS];
-    certify(n, &table[..cells], &mut inverse[..cells], out)
-}
-
-// The same, with room for the inverse.
-fn certify(n: usize, entries: &[i64], inverse: &mut [i64], out: &mut [u8]) -> usize
-    requires { IsOrder n × (length inverse.old ≡ n * n) }
+// The lines of a sheet of these entries.
+#[tactic(auto, using(tables::proofs::Buffers::Places::square_small))]
+fn certify(n: usize, entries: &[i64], out: &mut [u8]) -> usize
+    requires { IsOrder n }
     ensures { Puts (IsCertificate n entries.now) out.old result out.new }
 {
+    let mut room = [0i64; numbers::MOST_CELLS];
+    let inverse = &mut room[..n * n];
     let answer = verdict::inverse(n, entries, inverse);
     let number = answer.number;
     let next = put_four(number, n as u32, answer.exponent, answer.lifts, out);
@@ -73,6 +71,6 @@ fn certify(n: usize, entries: &[i64], inverse: &mut [i64], out: &mut [u8]) -> us
 fn put_four(a: u32, b: u32, c: u32, d: u32, out: &mut [u8]) -> usize
     ensures { Put out.old 0 (line (figures (a ∷ b ∷ c ∷ d ∷ []))) result out.new }
 {
-    let figures = [a as i64, b as i64, c as i64, d as i64];
+    let figures = [i64::from(a), i64::from(b), i64::from(c), i64::from(d)];
     sheets::writing::put_line(out, 0, &figures)
 }

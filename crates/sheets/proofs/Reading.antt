@@ -4,4 +4,3 @@ pub mod Link
 pub mod Turns
 pub mod Entries
 pub mod Ends
-pub mod Signs

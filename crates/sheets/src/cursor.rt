@@ -1,5 +1,5 @@
 // The cursor: a place in a text, and the numbers read from it.
-ghost use Rattle.std.specs.Prelude.{◌≡◌, [], ◌≤◌, ◌<◌, length, drop};
+ghost use Rattle.std.specs.Prelude.{◌≡◌, [], ◌≤◌, ◌<◌, ◌*◌, length, drop};
 ghost use Rattle.sheets.specs.Model.{refusal, moved, scan, Sane, Arrived, Body, Entered, closing, entry_form};
 
 use super::number::{Form, Next, Seen};
@@ -13,74 +13,42 @@ pub(crate) struct Cursor {
     pub(crate) offset: usize,
 }
 
-// What reading one number finds: the number and where the next begins, or what is wrong.
-#[derive(Clone, Copy)]
-pub(crate) enum Found {
-    Number(i64, Cursor),
-    Bad(Place),
-}
-
-// What reading all entries finds: where they end, or what is wrong.
-#[derive(Clone, Copy)]
-pub(crate) enum Rest {
-    Whole(Cursor),
-    Short(Place),
-}
-
 impl Cursor {
-    // Reads the entries of a sheet of order n, row by row, into the table.
-    pub(crate) fn entries(
-        self,
-        text: &[u8],
-        n: usize,
-        table: &mut [i64; numbers::MOST_CELLS],
-    ) -> Rest
-        requires { (Arrived text.now self (Body n [] Seen.Nothing)) × (length table.old ≡ 1024) }
-        ensures { Entered text.now n result table.new }
+    // Reads the entries of a sheet of order n, row by row, into its cells: gives where they end, or where the text is no sheet.
+    pub(crate) fn entries(self, text: &[u8], n: usize, cells: &mut [i64]) -> Result<Cursor, Place>
+        requires { (Arrived text.now self (Body n [] Seen.Nothing)) × (length cells.old ≡ n * n) }
+        ensures { Entered text.now n result cells.new }
     {
         let mut c = self;
-        let mut p: usize = 0;
-        while p < n * n {
-            match c.number(text, entry_form(n, p)) {
-                Found::Number(v, d) => {
-                    table[p] = v;
-                    c = d;
-                    p += 1;
-                }
-                Found::Bad(q) => {
-                    return Rest::Short(q);
-                }
-            }
+        for (i, cell) in cells.iter_mut().enumerate() {
+            let (value, next) = c.number(text, entry_form(n, i))?;
+            *cell = value;
+            c = next;
         }
-        Rest::Whole(c)
+        Ok(c)
     }
 
     // Reads one number and hands on where the next begins.
-    pub(crate) fn number(self, text: &[u8], form: Form) -> Found
+    pub(crate) fn number(self, text: &[u8], form: Form) -> Result<(i64, Cursor), Place>
         requires { (Sane self) × (self.offset ≤ length text.now) × (form.limit ≤ 1048576) }
         ensures { result ≡ scan form Seen.Nothing self (drop self.offset text.now) }
     {
         let mut c = self;
         let mut seen = Seen::Nothing;
-        let mut at = self.offset;
-        while at < text.len() {
-            let b = text[at];
-            let next = c.past(b);
-            match seen.after(b, form) {
+        for b in &text[self.offset..] {
+            let next = c.past(*b);
+            let Some(step) = seen.after(*b, form) else {
+                return Err(c.place(Reason::Byte));
+            };
+            match step {
                 Next::Go(s) => {
                     seen = s;
                     c = next;
-                    at += 1;
                 }
-                Next::Value(v) => {
-                    return Found::Number(v, next);
-                }
-                Next::Stop => {
-                    return Found::Bad(c.place(Reason::Byte));
-                }
+                Next::Value(v) => return Ok((v, next)),
             }
         }
-        Found::Bad(c.place(Reason::End))
+        Err(c.place(Reason::End))
     }
 
     // The place after the byte b: behind a line feed a new line begins.

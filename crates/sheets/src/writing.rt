@@ -1,5 +1,6 @@
-// Figures written into a buffer, from a place on; what finds no room there is left out. Each function gives the place after what it wrote.
-ghost use Rattle.std.specs.Prelude.{◌≡◌, cond, [], ◌∷◌, ◌+◌, ◌-◌, ◌≤◌, ◌<◌, min, eqb};
+// Figures written into a buffer, from a place on; what finds no room there is left out. Each function gives the place after what it wrote: the contracts name
+// buffer and place by one word, `Put`, and a struct that held them would stand behind a second borrow.
+ghost use Rattle.std.specs.Prelude.{◌≡◌, cond, [], ◌∷◌, ◌+◌, ◌<◌, eqb};
 ghost use Rattle.sheets.specs.Sheet.{decimal, figure, line, rows};
 ghost use Rattle.sheets.specs.Writing.{Put};
 
@@ -8,11 +9,9 @@ pub fn put_line(out: &mut [u8], at: usize, figures: &[i64]) -> usize
     ensures { Put out.old at (line figures.now) result out.new }
 {
     let mut next = at;
-    let mut i: usize = 0;
-    while i < figures.len() {
-        next = put_figure(out, next, figures[i]);
-        i += 1;
-        next = put_byte(out, next, after_figure(figures.len() - i));
+    for (i, z) in figures.iter().enumerate() {
+        next = put_figure(out, next, *z);
+        next = put_byte(out, next, after_figure(figures.len() - (i + 1)));
     }
     next
 }
@@ -22,25 +21,11 @@ pub fn put_rows(out: &mut [u8], at: usize, n: usize, figures: &[i64]) -> usize
     ensures { Put out.old at (rows n n figures.now) result out.new }
 {
     let mut next = at;
-    let mut from: usize = 0;
-    // no more lines than figures, whatever n is
-    let mut left = line_end(0, n, figures.len());
-    while 0 < left {
-        let to = line_end(from, n, figures.len());
-        next = put_line(out, next, &figures[from..to]);
-        from = to;
-        left -= 1;
+    // chunks of no figures cannot be asked for, and of no lines none is taken
+    for row in figures.chunks(n.max(1)).take(n) {
+        next = put_line(out, next, row);
     }
     next
-}
-
-// Where the line of n figures ends that begins at the place from, among count figures.
-fn line_end(from: usize, n: usize, count: usize) -> usize
-    requires { from ≤ count }
-    ensures { result ≡ from + min n (count - from) }
-{
-    let left = count - from;
-    if n < left { from + n } else { count }
 }
 
 // The byte after a figure that so many follow in its line.
@@ -54,14 +39,21 @@ fn after_figure(left: usize) -> u8
 fn put_figure(out: &mut [u8], at: usize, z: i64) -> usize
     ensures { Put out.old at (figure z) result out.new }
 {
-    if z < 0 {
-        let next = put_byte(out, at, b'-');
-        return put_digits(out, next, numbers::mag(z));
-    }
-    put_digits(out, at, numbers::mag(z))
+    let next = put_sign(out, at, z < 0);
+    put_digits(out, next, z.unsigned_abs())
 }
 
-// The digits of m.
+// The minus sign of a negative figure.
+fn put_sign(out: &mut [u8], at: usize, negative: bool) -> usize
+    ensures { Put out.old at (cond negative (45 ∷ []) []) result out.new }
+{
+    if negative {
+        return put_byte(out, at, b'-');
+    }
+    at
+}
+
+// The digits of m. The last digit comes first, so a loop would want a buffer of its own.
 fn put_digits(out: &mut [u8], at: usize, m: u64) -> usize
     ensures { Put out.old at (decimal m) result out.new }
 {
@@ -72,7 +64,7 @@ fn put_digits(out: &mut [u8], at: usize, m: u64) -> usize
     put_byte(out, next, digit(m % 10))
 }
 
-// The digit d.
+// The digit d. The cast is proved: `u8` has no `From` of a `u64`.
 fn digit(d: u64) -> u8
     requires { d < 10 }
     ensures { result ≡ 48 + d }

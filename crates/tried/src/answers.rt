@@ -3,109 +3,103 @@
 // with the letter of the call (v verdict, i inverse, r a row of it, l lift, b a block of it); the order, how many numbers the table and the lent buffer
 // have, and what a row, lift and a block ask besides (a row stands at s); the table; the figures that must be given, and what must then be seen of the
 // lent buffer. What is unsaid of that is as it was before.
-ghost use Rattle.std.specs.Prelude.{◌≤◌};
-
 use super::reading::{ALL, LIFTS, NEED, NUMBER, REST, TABLE, UNSAID, at, numbers};
 
-pub(crate) fn are(kind: u8, text: &[u8]) -> bool {
+// A call that is done and has no figures beside its number.
+const DONE: verdict::Outcome = verdict::Outcome {
+    number: 0,
+    exponent: 0,
+    lifts: 0,
+};
+
+// What a case calls, and whether all of the lent buffer is seen after it or a view.
+#[derive(Clone, Copy)]
+pub(crate) enum Call {
+    Verdict,
+    Inverse,
+    Row,
+    Lift,
+    Block,
+}
+
+// Any other letter is a verdict's.
+impl From<u8> for Call {
+    fn from(letter: u8) -> Call {
+        match letter {
+            b'i' => Call::Inverse,
+            b'r' => Call::Row,
+            b'l' => Call::Lift,
+            b'b' => Call::Block,
+            _ => Call::Verdict,
+        }
+    }
+}
+
+pub(crate) fn are(call: Call, text: &[u8]) -> bool {
     let case = numbers(text);
     let mut out = [UNSAID; ALL];
-    let start = 0;
-    let size = room(argument(&case, 3));
-    judge(kind, &case, &mut out[start..size])
+    let size = argument(&case, 3).min(ALL);
+    let lent = &mut out[..size];
+    let o = call.outcome(&case, lent);
+    three(&case, o) && rest_is(&case, call.seen(&case, lent))
 }
 
-fn judge(kind: u8, case: &[i64], lent: &mut [i64]) -> bool {
-    let o = call(kind, case, lent);
-    agree(kind, case, o, lent)
-}
+impl Call {
+    // The three figures: number, need and k; lift has its number alone.
+    fn outcome(self, case: &[i64; ALL], lent: &mut [i64]) -> verdict::Outcome {
+        let n = argument(case, 1);
+        let table = part(case, argument(case, 2));
+        match self {
+            Call::Inverse | Call::Row => verdict::inverse(n, table, lent),
+            Call::Lift | Call::Block => {
+                let (lifts, exponent) = (argument(case, 4), small(argument(case, 5)));
+                match lifting::lift(n, lifts, exponent, table, lent) {
+                    Ok(()) => DONE,
+                    Err(refusal) => verdict::Outcome::from(refusal),
+                }
+            }
+            Call::Verdict => verdict::outcome_of(verdict::verdict(n, table)),
+        }
+    }
 
-fn agree(kind: u8, case: &[i64], o: verdict::Outcome, left: &[i64]) -> bool {
-    three(case, o) && rest_is(case, seen(kind, case, left))
-}
-
-// The three figures: number, need and k; lift has its number alone.
-fn call(kind: u8, case: &[i64], lent: &mut [i64]) -> verdict::Outcome {
-    let n = argument(case, 1);
-    let table = part(case, argument(case, 2));
-    match kind {
-        b'i' | b'r' => verdict::inverse(n, table, lent),
-        b'l' | b'b' => number(lifting::lift(
-            n,
-            argument(case, 4),
-            small(argument(case, 5)),
-            table,
-            lent,
-        )),
-        _ => verdict::outcome_of(verdict::verdict(n, table)),
+    // The lent buffer, or a row of the inverse, or a block of the expansion.
+    fn seen<'a>(self, case: &[i64; ALL], left: &'a [i64]) -> &'a [i64] {
+        match self {
+            Call::Row => tables::row(argument(case, 1), left, argument(case, 4)),
+            Call::Block => lifting::block(
+                argument(case, 1),
+                argument(case, 4),
+                left,
+                argument(case, 6),
+            ),
+            Call::Verdict | Call::Inverse | Call::Lift => left,
+        }
     }
 }
 
-fn number(number: u32) -> verdict::Outcome {
-    verdict::Outcome {
-        number,
-        exponent: 0,
-        lifts: 0,
-    }
-}
-
-// The lent buffer, or a row of the inverse, or a block of the expansion.
-fn seen<'a>(kind: u8, case: &[i64], left: &'a [i64]) -> &'a [i64] {
-    match kind {
-        b'r' => tables::row(argument(case, 1), left, argument(case, 4)),
-        b'b' => lifting::block(
-            argument(case, 1),
-            argument(case, 4),
-            left,
-            argument(case, 6),
-        ),
-        _ => left,
-    }
-}
-
-fn three(case: &[i64], o: verdict::Outcome) -> bool {
+fn three(case: &[i64; ALL], o: verdict::Outcome) -> bool {
     is(case, NUMBER, o.number) && is(case, NEED, o.exponent) && is(case, LIFTS, o.lifts)
 }
 
-fn is(case: &[i64], i: usize, v: u32) -> bool {
-    at(case, i) == numbers::signed(v)
+fn is(case: &[i64; ALL], i: usize, v: u32) -> bool {
+    at(case, i) == i64::from(v)
 }
 
-fn argument(case: &[i64], i: usize) -> usize {
-    numbers::mag(at(case, i)) as usize
+fn argument(case: &[i64; ALL], i: usize) -> usize {
+    at(case, i).unsigned_abs() as usize
 }
 
 fn small(v: usize) -> u32 {
-    if v < 4294967296 { v as u32 } else { 4294967295 }
+    u32::try_from(v).unwrap_or(u32::MAX)
 }
 
 // Whether what is given after the three figures is a list, and no more.
-fn rest_is(case: &[i64], left: &[i64]) -> bool {
-    let mut i: usize = REST;
-    let mut k: usize = 0;
-    while k < left.len() {
-        if left[k] != at(case, i) {
-            return false;
-        }
-        i = i.wrapping_add(1);
-        k += 1;
-    }
-    at(case, i) == UNSAID
+fn rest_is(case: &[i64; ALL], left: &[i64]) -> bool {
+    let given = &case[REST..];
+    left.iter().enumerate().all(|(k, v)| *v == at(given, k)) && at(given, left.len()) == UNSAID
 }
 
-fn room(size: usize) -> usize
-    ensures { result ≤ 2304 }
-{
-    if size < ALL { size } else { ALL }
-}
-
-// The table of a case, of so many numbers.
-fn part(case: &[i64], count: usize) -> &[i64] {
-    let to = TABLE.wrapping_add(count);
-    if TABLE <= to {
-        if to <= case.len() {
-            return &case[TABLE..to];
-        }
-    }
-    case
+// The table of a case, of so many numbers; of more than there are, the whole case.
+fn part(case: &[i64; ALL], count: usize) -> &[i64] {
+    case[TABLE..].get(..count).unwrap_or(case)
 }

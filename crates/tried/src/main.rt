@@ -2,10 +2,10 @@
 // document 01, 'Tried by hand'.
 #![tactic(auto)]
 
-ghost use Rattle.std.specs.Prelude.{◌≤◌, length};
-
 mod answers;
 mod reading;
+
+use answers::Call;
 
 fn main(rt: HostRuntime) {
     let mut text = [0u8; 16384];
@@ -15,34 +15,22 @@ fn main(rt: HostRuntime) {
 
 fn run(rt: &impl Print, text: &[u8]) {
     let mut right: u64 = 0;
-    let mut from: usize = 0;
-    while from < text.len() {
-        let end = end_of(text, from);
-        right = right.wrapping_add(case(rt, text[from], &text[from..end]));
-        from = if end < text.len() { end + 1 } else { end };
+    for line in text.split(|b| *b == b'#') {
+        if case(rt, line) {
+            right = right.wrapping_add(1);
+        }
     }
     total(rt, right);
 }
 
-// Where the case that begins at a place ends: at the next '#', or with the text.
-fn end_of(text: &[u8], from: usize) -> usize
-    requires { from ≤ length text.now }
-    ensures behind { from ≤ result }
-    ensures within { result ≤ length text.now }
-{
-    match text[from..].iter().position(|b| *b == b'#') {
-        Some(more) => from + more,
-        None => text.len(),
+// Whether a case comes out right; one that does not is printed. Its first letter names the call.
+fn case(rt: &impl Print, line: &[u8]) -> bool {
+    let letter = line.first().copied().unwrap_or(b'v');
+    let right = answers::are(Call::from(letter), line);
+    if !right {
+        let _ = rt.write_all(line);
     }
-}
-
-// Prints a case that comes out wrong; gives 1 for one that comes out right.
-fn case(rt: &impl Print, kind: u8, line: &[u8]) -> u64 {
-    if answers::are(kind, line) {
-        return 1;
-    }
-    let _ = rt.write_all(line);
-    0
+    right
 }
 
 fn total(rt: &impl Print, right: u64) {

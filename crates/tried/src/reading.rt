@@ -18,11 +18,11 @@ pub(crate) const LIFTS: usize = 1103;
 
 pub(crate) const REST: usize = 1104;
 
-// A list as far as it is read, the place that is written now, and its number so far.
+// A list as far as it is read, the place that is written now, if there is one, and its number so far.
 #[derive(Drop)]
 struct Reading {
     list: [i64; ALL],
-    at: usize,
+    at: Option<usize>,
     minus: bool,
     size: u64,
 }
@@ -30,73 +30,67 @@ struct Reading {
 pub(crate) fn numbers(text: &[u8]) -> [i64; ALL] {
     let mut r = Reading {
         list: [UNSAID; ALL],
-        at: 0,
+        at: Some(0),
         minus: false,
         size: 0,
     };
-    let mut i: usize = 0;
-    while i < text.len() {
-        r = r.after(text[i]);
-        i += 1;
+    for b in text {
+        r.read(*b);
     }
     r.list
 }
 
 impl Reading {
-    fn after(mut self, b: u8) -> Reading {
-        let digit = b.wrapping_sub(b'0');
-        if digit < 10 {
-            return self.with(digit);
+    fn read(&mut self, b: u8) {
+        match char::from(b).to_digit(10) {
+            Some(digit) => self.digit(digit),
+            None => {
+                self.at = turn(b, self.at);
+                self.minus = b == b'-';
+                self.size = 0;
+            }
         }
-        self.at = turn(b, self.at);
-        self.minus = b == b'-';
-        self.size = 0;
-        self
     }
 
-    fn with(mut self, digit: u8) -> Reading {
-        let size = grow(self.size, digit);
-        let number = value(self.minus, size);
-        let at = self.at;
-        if at < ALL {
-            self.list[at] = number;
+    // By hand, and not by `parse`: the number is written at each of its digits, and one of 18 grows no more.
+    fn digit(&mut self, digit: u32) {
+        self.size = grow(self.size, digit);
+        let number = value(self.minus, self.size);
+        if let Some(at) = self.at {
+            if at < ALL {
+                self.list[at] = number;
+            }
         }
-        self.size = size;
-        self
     }
 }
 
-// The place of the next number: one on after a space; after a bar there is none.
-fn turn(b: u8, at: usize) -> usize {
-    if at < ALL {
-        return match b {
-            b' ' => at + 1,
-            b'[' => TABLE,
-            b':' => GIVEN,
-            b'|' => ALL,
-            _ => at,
-        };
+// The place of the next number: one on after a space; after a bar, or past the list, there is none.
+fn turn(b: u8, at: Option<usize>) -> Option<usize> {
+    let at = at?;
+    match b {
+        b' ' => at.checked_add(1).filter(|next| *next < ALL),
+        b'[' => Some(TABLE),
+        b':' => Some(GIVEN),
+        b'|' => None,
+        _ => Some(at),
     }
-    at
 }
 
 // The size with one digit more; one of 18 digits grows no more.
-fn grow(size: u64, digit: u8) -> u64 {
+fn grow(size: u64, digit: u32) -> u64 {
     if size < 100000000000000000 {
-        return size * 10 + digit as u64;
+        size * 10 + u64::from(digit)
+    } else {
+        size
     }
-    size
 }
 
 fn value(minus: bool, size: u64) -> i64 {
-    if size < 9223372036854775808 {
-        let v = size as i64;
-        return if minus { 0 - v } else { v };
-    }
-    0
+    let v = i64::try_from(size).unwrap_or(0);
+    if minus { -v } else { v }
 }
 
 // Number i of a list.
 pub(crate) fn at(list: &[i64], i: usize) -> i64 {
-    if i < list.len() { list[i] } else { UNSAID }
+    list.get(i).copied().unwrap_or(UNSAID)
 }

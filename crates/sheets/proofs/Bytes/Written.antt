@@ -1,18 +1,18 @@
 -- How a figure, a line and rows are written.
-use mathlib.Core.Path.{◌≡◌, refl, sym, ap, ◌∙◌, subst}
-use mathlib.Core.Bool.{Bool, true, false, cond}
+use mathlib.Core.Path.{◌≡◌, refl, sym, ap, ap₂, ◌∙◌, subst}
+use mathlib.Core.Bool.{Bool, cond}
 use mathlib.Core.List.{List, [], ◌∷◌, ◌++◌}
-use Prim.Native.Nat.{ℕ, zero, suc, ◌+◌, ◌-◌, ◌≤◌, ◌<◌, ◌^◌, min}
+use Prim.Native.Nat.{ℕ, zero, suc, ◌+◌, ◌-◌, ◌≤◌, ◌<◌, ◌^◌, min, max}
 use native.Mathlib.Nat.{zero-min, min-zero, suc-min-suc}
-use native.Mathlib.Decide.{dec_le}
+use lib.Seq.{take-append_seam, drop-append_seam}
 use native.Mathlib.Numerals.{add-one}
 use native.Mathlib.Omega.{arith}
 use lib.Dec.{eqb}
 use lib.IntN.{ℤ, pos, negsuc, nat_abs}
 use lib.Signed.{mag, lt_z}
 use lib.ListN.{length, take, drop, get_or, length-drop}
-use lib.Seq.{drop-cons, drop-drop}
-use borrow.Author.Tests.{ltb-true, ne_eqb}
+use lib.Seq.{drop-cons}
+use borrow.Author.Tests.{le-ltb, ne_eqb}
 use mir.Syntax.{w64}
 use mir.Val.{SFits}
 use Rattle.numbers.proofs.Machine.{rd, rd_is, rd_ok}
@@ -20,23 +20,18 @@ use Rattle.sheets.specs.Sheet.{decimal, figure, line, rows}
 use Rattle.sheets.specs.Writing.{Put}
 use Rattle.sheets.proofs.Bytes.Puts.{put_join, Partly, partly_start, partly_more, partly_all}
 
-below_text : (z : ℤ) → lt_z z (pos 0) ≡ true → 45 ∷ decimal (nat_abs z) ≡ figure z
-below_text (pos n) h = absurd (omega (arith, ltb-true n 0 h))
-below_text (negsuc k) h = refl
+sign_text : (z : ℤ) → cond (lt_z z (pos 0)) (45 ∷ []) [] ++ decimal (nat_abs z) ≡ figure z
+sign_text (pos n) = rw (le-ltb n 0 (omega arith))
+sign_text (negsuc k) = refl
 
-above_text : (z : ℤ) → lt_z z (pos 0) ≡ false → decimal (nat_abs z) ≡ figure z
-above_text (pos n) h = refl
-above_text (negsuc k) h = absurd (let x : ◌≡◌ {A = ℕ} 0 1 = cc in omega arith)
-
--- below zero a minus sign and the magnitude, else the magnitude
-module _ (z : ℤ) (f : SFits w64 z) {k : ℕ} (e : k ≡ nat_abs (rd z)) {old new : List ℕ} {at q : ℕ} where
-  pub put_below : {mid : List ℕ} {r : ℕ} → lt_z (rd z) (pos 0) ≡ true → Put old at (45 ∷ []) r mid → Put mid r (decimal k) q new → Put old at (figure z) q new
-  put_below {mid} {r} h m d =
-      subst (λ (x : List ℕ). Put old at x q new) (ap (λ (n : ℕ). 45 ∷ decimal n) (e ∙ ap nat_abs (rd_is f)) ∙ below_text z (rw (rd_is f) at h))
-      (put_join (45 ∷ []) (decimal k) m d)
-
-  pub put_above : lt_z (rd z) (pos 0) ≡ false → Put old at (decimal k) q new → Put old at (figure z) q new
-  put_above h d = subst (λ (x : List ℕ). Put old at x q new) (ap decimal (e ∙ ap nat_abs (rd_is f)) ∙ above_text z (rw (rd_is f) at h)) d
+-- the minus sign of a number below zero, and the magnitude
+pub put_signed : (z : ℤ) {old mid new : List ℕ} {at r q k : ℕ} → SFits w64 z → k ≡ nat_abs (rd z)
+    → Put old at (cond (lt_z (rd z) (pos 0)) (45 ∷ []) []) r mid → Put mid r (decimal k) q new → Put old at (figure z) q new
+put_signed z {old} {mid} {new} {at} {r} {q} {k} f e m d =
+    let n = rw (rd_is f) at e in
+    let sign = rw (rd_is f) at m in
+    subst (λ (x : List ℕ). Put old at x q new) (ap (λ (i : ℕ). cond (lt_z z (pos 0)) (45 ∷ []) [] ++ decimal i) n ∙ sign_text z)
+    (put_join (cond (lt_z z (pos 0)) (45 ∷ []) []) (decimal k) sign d)
 
 -- the byte after a figure that k others follow in its line
 abbrev after : ℕ → ℕ
@@ -76,46 +71,42 @@ drop_min zero l = simp zero-min
 drop_min (suc n) [] = simp min-zero
 drop_min (suc n) (z ∷ l) = simp suc-min-suc (drop_min n l)
 
--- one line more
--- no figures, no lines; and as many lines as figures are enough
+-- no figures, no lines
 rows_none : (n k : ℕ) → rows n k [] ≡ []
 rows_none n zero = refl
 rows_none zero (suc k) = rows_none zero k
 rows_none (suc n) (suc k) = rows_none (suc n) k
 
-rows_enough : (n k j : ℕ) (fs : List ℤ) → length fs ≤ k → length fs ≤ j → rows (suc n) k fs ≡ rows (suc n) j fs
-rows_enough n zero j [] h l = sym (rows_none (suc n) j)
-rows_enough n zero j (f ∷ fs) h l = absurd (omega arith)
-rows_enough n (suc k) j [] h l = rows_none (suc n) (suc k) ∙ sym (rows_none (suc n) j)
-rows_enough n (suc k) zero (f ∷ fs) h l = absurd (omega arith)
-rows_enough n (suc k) (suc j) (f ∷ fs) h l =
-    ap (λ (r : List ℕ). line (take (suc n) (f ∷ fs)) ++ r) (rows_enough n k j (drop n fs) (omega (arith, length-drop n fs)) (omega (arith, length-drop n fs)))
+-- so many lines are left, of the figures rest; a line takes n of them, or what is left
+pub record Rows (old : List ℕ) (at n : ℕ) (fs : List ℤ) (size left : ℕ) (rest : List ℤ) (next : ℕ) (new : List ℕ) : Type 0 where
+  pub full : size ≡ max n 1
+  pub most : left ≤ n
+  pub put : Partly old at (rows n n fs) (rows n left rest) next new
 
-rows_few : (n : ℕ) (fs : List ℤ) → rows n n fs ≡ rows n (min n (length fs)) fs
-rows_few zero fs = rw zero-min
-rows_few (suc n) fs = elim (dec_le (suc n) (length fs)) [
-  | yes h ↦ let e : min (suc n) (length fs) ≡ suc n = omega arith in rw e
-  | no f ↦ rows_enough n (suc n) (min (suc n) (length fs)) fs (omega arith) (omega arith)
-]
+pub rows_start : {n size left : ℕ} {fs rest : List ℤ} (old : List ℕ) (at : ℕ) → size ≡ max n 1 → left ≡ n → rest ≡ fs → Rows old at n fs size left rest at old
+rows_start {n} {size} {left} {fs} {rest} old at s l r = rw (l, r) (record { full = s; most = omega arith; put = partly_start old at (rows n n fs) })
 
-pub rows_start : {old : List ℕ} {at left : ℕ} (n : ℕ) (fs : List ℤ) → left ≡ 0 + min n (length fs - 0) → Partly old at (rows n n fs) (rows n left (drop 0 fs)) at old
-rows_start {old} {at} {left} n fs e =
-    let q : left ≡ min n (length fs) = omega arith in
-    subst (λ (w : List ℕ). Partly old at (rows n n fs) w at old) (rows_few n fs ∙ ap (λ (k : ℕ). rows n k fs) (sym q)) (partly_start _ _ _)
+module _ {old new : List ℕ} {at n size left next : ℕ} {fs rest : List ℤ} (h : Rows old at n fs size left rest next new) where
+  -- one line more
+  pub rows_turn : {last : List ℕ} {size' left' q : ℕ} (row : List ℤ) {rest' : List ℤ} → size' ≡ size → left' + 1 ≡ left → rest ≡ row ++ rest' → length row ≡ min size (length rest)
+      → Put new next (line row) q last → Rows old at n fs size' left' rest' q last
+  rows_turn {last} {size'} {left'} {q} row {rest'} s l r m k =
+      let e : min n (length rest) ≡ length row = omega (arith, h.full, h.most) in
+      let a : take n rest ≡ row = sym (take_min n rest) ∙ ap₂ (λ (x : ℕ) (y : List ℤ). take x y) e r ∙ take-append_seam row rest' in
+      let b : drop n rest ≡ rest' = sym (drop_min n rest) ∙ ap₂ (λ (x : ℕ) (y : List ℤ). drop x y) e r ∙ drop-append_seam row rest' in
+      let w : rows n left rest ≡ line row ++ rows n left' rest'
+      = ap (λ (x : ℕ). rows n x rest) (sym l ∙ add-one left') ∙ ap₂ (λ (x y : List ℤ). line x ++ rows n left' y) a b in
+      record {
+        full = s ∙ h.full;
+        most = omega (arith, h.most);
+        put = partly_more (line row) (rows n left' rest') (rw w at h.put) k;
+      }
 
-pub rows_turn : {old new last w : List ℕ} {at next q : ℕ} (fs : List ℤ) (n from to left : ℕ) → to ≡ from + min n (length fs - from) → 1 ≤ left
-    → Partly old at w (rows n left (drop from fs)) next new → Put new next (line (take (to - from) (drop from fs))) q last
-    → Partly old at w (rows n (left - 1) (drop to fs)) q last
-rows_turn fs n from to zero e h p k = absurd (omega arith)
-rows_turn {old} {new} {last} {w} {at} {next} {q} fs n from to (suc left) e h p k =
-    let rest = drop from fs in
-    let m : to ≡ from + min n (length rest) = e ∙ ap (λ (x : ℕ). from + min n x) (sym (length-drop from fs)) in
-    let d : to - from ≡ min n (length rest) = omega (arith, m) in
-    let a : take (to - from) rest ≡ take n rest = ap (λ (x : ℕ). take x rest) d ∙ take_min n rest in
-    let b : drop to fs ≡ drop n rest = ap (λ (x : ℕ). drop x fs) m ∙ sym (drop-drop (min n (length rest)) from fs) ∙ drop_min n rest in
-    let l : suc left - 1 ≡ left = omega arith in
-    rw (l, b) (partly_more (line (take n rest)) (rows n left (drop n rest)) p (subst (λ (x : List ℤ). Put new next (line x) q last) a k))
-
-pub rows_all : {old new w : List ℕ} {at q : ℕ} (n left : ℕ) (fs : List ℤ) → left ≤ 0 → Partly old at w (rows n left fs) q new → Put old at w q new
-rows_all n zero fs h p = partly_all refl p
-rows_all n (suc left) fs h p = absurd (omega arith)
+  -- no lines, or no figures, are left
+  pub rows_end : (0 < left → length rest ≡ 0) → Put old at (rows n n fs) next new
+  rows_end f = partly_all (at_end left rest f) h.put
+    where
+      at_end : (k : ℕ) (l : List ℤ) → (0 < k → length l ≡ 0) → rows n k l ≡ []
+      at_end zero l f = refl
+      at_end (suc k) [] f = rows_none n (suc k)
+      at_end (suc k) (z ∷ l) f = absurd (omega (arith, f (omega arith)))

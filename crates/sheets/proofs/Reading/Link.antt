@@ -11,23 +11,22 @@ use Rattle.sheets.specs.declared.number.Form.{Form}
 use Rattle.sheets.specs.declared.number.Seen.{Seen}
 use Rattle.sheets.specs.declared.number.Seen.TheVariants.{Nothing}
 use Rattle.sheets.specs.declared.number.Next.{Next}
-use Rattle.sheets.specs.declared.number.Next.TheVariants.{Go, Value, Stop}
-use Rattle.sheets.specs.declared.cursor.Found.{Found}
-use Rattle.sheets.specs.declared.cursor.Found.TheVariants.{Number, Bad}
+use Rattle.sheets.specs.declared.number.Next.TheVariants.{Go, Value}
 use Rattle.sheets.specs.Sheet.{IsSheet}
 use Rattle.sheets.specs.Answer.{NoSheet, place_of}
 use Rattle.sheets.specs.Digits.{after_byte}
-use Rattle.sheets.specs.Model.{refusal, moved, ahead, scan, cursor_after, State, Head, Dead, step, run, Arrived}
+use Rattle.std.specs.Prelude.{Option, Some, None, Ok, Err}
+use Rattle.sheets.specs.Model.{Found, refusal, moved, ahead, scan, cursor_after, State, Head, Dead, step, run, Arrived}
 use Rattle.sheets.proofs.Reading.Cursors.{cursor_moved}
 use Rattle.sheets.proofs.Stages.States.{run_append}
 use Rattle.sheets.proofs.Stages.Complete.{Slot}
 use Rattle.sheets.proofs.Stages.Exact.{beginning, no_beginning, no_sheet_byte, no_sheet_end}
 
-module _ {E : Seen → State} {f : Form} {out : Next → State} (slot : Slot E f out) (live : (s : Seen) → E s ≡ Dead → ⊥)
+module _ {E : Seen → State} {f : Form} {out : Option Next → State} (slot : Slot E f out) (live : (s : Seen) → E s ≡ Dead → ⊥)
     (short : (t : List ℕ) (s : Seen) → run (Head Nothing) t ≡ E s → (n : ℕ) (es : List ℤ) → ¬ IsSheet t n es) (t : List ℕ) where
   abbrev Linked : Found → Type 0
-  Linked (Number z c) = Arrived t c (out (Value z))
-  Linked (Bad p) = NoSheet t (place_of p)
+  Linked (Ok v) = Arrived t v.1 (out (Some (Value v.0)))
+  Linked (Err p) = NoSheet t (place_of p)
 
   -- after the bytes u, s has been seen of the number, and l follows
   linked : (s : Seen) (u l : List ℕ) → t ≡ u ++ l → run (Head Nothing) u ≡ E s → Linked (scan f s (cursor_after u) l)
@@ -41,16 +40,16 @@ module _ {E : Seen → State} {f : Form} {out : Next → State} (slot : Slot E f
       more : t ≡ (u ++ (b ∷ [])) ++ l
       more = p ∙ sym (append_assoc u (b ∷ []) l)
 
-      leads : (r : Next) → after_byte f s b ≡ r → run (Head Nothing) (u ++ (b ∷ [])) ≡ out r
+      leads : (r : Option Next) → after_byte f s b ≡ r → run (Head Nothing) (u ++ (b ∷ [])) ≡ out r
       leads r a = run_append (Head Nothing) u (b ∷ []) ∙ ap (λ (x : State). step x b) e ∙ slot.steps s b ∙ ap out a
 
-      at : (r : Next) → after_byte f s b ≡ r
+      at : (r : Option Next) → after_byte f s b ≡ r
           → ((s' : Seen) → run (Head Nothing) (u ++ (b ∷ [])) ≡ E s' → Linked (scan f s' (cursor_after (u ++ (b ∷ []))) l))
           → Linked (ahead (cursor_after u) b (λ s'. scan f s' (moved (cursor_after u) b) l) r)
-      at (Go s') a next = rw (cursor_moved u b) (next s' (leads (Go s') a ∙ slot.go s'))
-      at (Value z) a next = record { before = u ++ (b ∷ []); rest = l; parts = more; here = cursor_moved u b; state = leads (Value z) a }
-      at Stop a next =
-          rw p (no_sheet_byte u b l (beginning u (λ (d : run (Head Nothing) u ≡ Dead). live s (sym e ∙ d))) (no_beginning (u ++ (b ∷ [])) (leads Stop a ∙ slot.stop)))
+      at (Some (Go s')) a next = rw (cursor_moved u b) (next s' (leads (Some (Go s')) a ∙ slot.go s'))
+      at (Some (Value z)) a next = record { before = u ++ (b ∷ []); rest = l; parts = more; here = cursor_moved u b; state = leads (Some (Value z)) a }
+      at None a next =
+          rw p (no_sheet_byte u b l (beginning u (λ (d : run (Head Nothing) u ≡ Dead). live s (sym e ∙ d))) (no_beginning (u ++ (b ∷ [])) (leads None a ∙ slot.stop)))
 
   pub number_found : {c : Cursor} {r : Found} → Arrived t c (E Nothing) → scan f Nothing c (drop c.offset t) ≡ r → Linked r
   number_found {c} {r} h e =

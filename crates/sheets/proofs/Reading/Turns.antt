@@ -7,12 +7,12 @@ use native.Mathlib.Omega.{arith}
 use lib.IntN.{ℤ, nat_abs}
 use lib.ListN.{length, drop, length-append}
 use borrow.Author.Tests.{le-ltb}
+use Rattle.std.specs.Prelude.{Ok, Err}
 use Rattle.sheets.specs.declared.Reason.TheVariants.{Byte}
 use Rattle.sheets.specs.declared.Place.{Place}
 use Rattle.sheets.specs.declared.cursor.Cursor.{Cursor}
 use Rattle.sheets.specs.declared.number.Seen.{Seen}
 use Rattle.sheets.specs.declared.number.Seen.TheVariants.{Nothing}
-use Rattle.sheets.specs.declared.cursor.Found.TheVariants.{Number, Bad}
 use Rattle.sheets.specs.Sheet.{IsSheet}
 use Rattle.sheets.specs.Answer.{NoSheet, place_of}
 use Rattle.sheets.specs.Digits.{after_byte}
@@ -37,28 +37,28 @@ module _ {t : List ℕ} {c : Cursor} {s : State} (h : Arrived t c s) where
   ready_inside = rw (h.here, h.parts) (omega (arith, length-append h.before h.rest))
 
 head_live : (s : Seen) → Head s ≡ Dead → ⊥
-head_live s e = let z : ◌≡◌ {A = ℕ} 0 1 = cc in omega arith
+head_live s e = cc
 
 body_live : (n : ℕ) (es : List ℤ) (s : Seen) → Body n es s ≡ Dead → ⊥
-body_live n es s e = let z : ◌≡◌ {A = ℕ} 0 1 = cc in omega arith
+body_live n es s e = cc
 
 module _ (t : List ℕ) (c : Cursor) where
   pub ready_body : (n : ℕ) (es : List ℤ) (s : Seen) → Arrived t c (Body n es s) → InBody n es s
   ready_body n es s h = run_in_body h.before n es s h.state
 
-  pub order_read : (z : ℤ) (c' : Cursor) → Arrived t c (Head Nothing) → scan order_form Nothing c (drop c.offset t) ≡ Number z c'
+  pub order_read : (z : ℤ) (c' : Cursor) → Arrived t c (Head Nothing) → scan order_form Nothing c (drop c.offset t) ≡ Ok (z, c')
       → Arrived t c' (Body (nat_abs z) [] Nothing)
   order_read z c' h e = number_found head_slot head_live head_open t h e
 
-  pub order_bad : (p : Place) → Arrived t c (Head Nothing) → scan order_form Nothing c (drop c.offset t) ≡ Bad p → NoSheet t (place_of p)
+  pub order_bad : (p : Place) → Arrived t c (Head Nothing) → scan order_form Nothing c (drop c.offset t) ≡ Err p → NoSheet t (place_of p)
   order_bad p h e = number_found head_slot head_live head_open t h e
 
   module _ (n : ℕ) (es : List ℤ) (h : Arrived t c (Body n es Nothing)) where
-    pub entry_read : (z : ℤ) (c' : Cursor) → length es < n * n → scan (entry_form n (length es)) Nothing c (drop c.offset t) ≡ Number z c'
+    pub entry_read : (z : ℤ) (c' : Cursor) → length es < n * n → scan (entry_form n (length es)) Nothing c (drop c.offset t) ≡ Ok (z, c')
         → Arrived t c' (Body n (es ++ (z ∷ [])) Nothing)
     entry_read z c' k e = number_found (body_slot n es k) (body_live n es) (λ u s r. body_open u n es s k r) t h e
 
-    pub entry_bad : (p : Place) → length es < n * n → scan (entry_form n (length es)) Nothing c (drop c.offset t) ≡ Bad p → NoSheet t (place_of p)
+    pub entry_bad : (p : Place) → length es < n * n → scan (entry_form n (length es)) Nothing c (drop c.offset t) ≡ Err p → NoSheet t (place_of p)
     entry_bad p k e = number_found (body_slot n es k) (body_live n es) (λ u s r. body_open u n es s k r) t h e
 
     full_dead : (b : ℕ) → length es ≡ n * n → step (Body n es Nothing) b ≡ Dead

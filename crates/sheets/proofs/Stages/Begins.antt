@@ -11,7 +11,7 @@ use lib.ListN.{length, length-append, replicate, length-replicate}
 use borrow.Author.Tests.{ltb-true, ltb-false}
 use Rattle.numbers.specs.Limits.{IsOrder, IsEntry, Legal}
 use Rattle.sheets.specs.declared.number.Seen.{Seen}
-use Rattle.sheets.specs.declared.number.Seen.TheVariants.{Nothing, Minus, Plain, Less}
+use Rattle.sheets.specs.declared.number.Seen.TheVariants.{Nothing, Minus, Digits}
 use Rattle.sheets.specs.Sheet.{decimal, figure, IsBeginning}
 use Rattle.sheets.specs.Digits.{Allowed}
 use Rattle.sheets.specs.Model.{closing, order_form, entry_form, State, Head, Body, Dead}
@@ -33,15 +33,15 @@ record Entry (s : Seen) : Type 0 where
   rest : List ℕ
   text : seen_text s ++ rest ≡ figure value
 
-end_less : (m : ℕ) → 1 ≤ m → m ≤ 1048576 → Entry (Less m)
+end_less : (m : ℕ) → 1 ≤ m → m ≤ 1048576 → Entry (Digits true m)
 end_less zero p k = absurd (omega arith)
 end_less (suc m) p k = record { value = negsuc m; legal = k; rest = []; text = append-nil (45 ∷ decimal (suc m)) }
 
 end_entry : (n i : ℕ) (s : Seen) → Allowed (entry_form n i) s → Entry s
 end_entry n i Nothing l = record { value = pos 0; legal = omega arith; rest = decimal 0; text = refl }
 end_entry n i Minus l = record { value = negsuc 0; legal = omega arith; rest = decimal 1; text = refl }
-end_entry n i (Plain m) l = record { value = pos m; legal = l.0; rest = []; text = append-nil (decimal m) }
-end_entry n i (Less m) l = end_less m l.1 l.2
+end_entry n i (Digits false m) l = record { value = pos m; legal = l.0; rest = []; text = append-nil (decimal m) }
+end_entry n i (Digits true m) l = end_less m l.1 l.2
 
 -- some entries to come: the one begun, and zeros
 body_open : (n : ℕ) (es : List ℤ) (s : Seen) → InBody n es s → length es < n * n → IsBeginning (state_text (Body n es s))
@@ -77,15 +77,12 @@ head_with s m r o e =
           (sym (append_assoc (seen_text s) r after) ∙ ap (λ (x : List ℕ). x ++ after) e);
     }
 
-unsigned : {A : Type 0} → false ≡ true → A
-unsigned {A} e = absurd (let z : ◌≡◌ {A = ℕ} 0 1 = cc in omega arith)
-
 head_begins : (s : Seen) → Allowed order_form s → IsBeginning (seen_text s)
 head_begins Nothing l = head_with Nothing 1 (decimal 1) (record { from = omega arith; upto = omega arith }) refl
-head_begins Minus l = unsigned l
-head_begins (Plain zero) l = unsigned (l.1 refl)
-head_begins (Plain (suc m)) l = head_with (Plain (suc m)) (suc m) [] (record { from = omega arith; upto = l.0 }) (append-nil (decimal (suc m)))
-head_begins (Less m) l = unsigned l.0
+head_begins Minus l = cc
+head_begins (Digits false zero) l = let e : false ≡ true = l.1 refl in cc
+head_begins (Digits false (suc m)) l = head_with (Digits false (suc m)) (suc m) [] (record { from = omega arith; upto = l.0 }) (append-nil (decimal (suc m)))
+head_begins (Digits true m) l = cc
 
 -- every legal state but the dead one is the beginning of a sheet
 pub begins : (s : State) → LegalState s → (s ≡ Dead → ⊥) → IsBeginning (state_text s)

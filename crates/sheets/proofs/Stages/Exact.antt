@@ -18,9 +18,6 @@ use Rattle.sheets.proofs.Stages.Begins.{begins}
 use Rattle.sheets.proofs.Text.Lines.{lines, is_sheet}
 use Rattle.sheets.proofs.Stages.Complete.{complete}
 
-dead_live : {A : Type 0} {n : ℕ} {es : List ℤ} {s : Seen} → Dead ≡ Body n es s → A
-dead_live {A} {n} {es} {s} e = absurd (let z : ◌≡◌ {A = ℕ} 0 1 = cc in omega arith)
-
 alive : (t : List ℕ) (s : State) → After (Head Nothing) t s → (s ≡ Dead → ⊥) → IsBeginning t
 alive t (Head s) h d = subst IsBeginning h.1 (begins (Head s) h.0 d)
 alive t (Body n es s) h d = subst IsBeginning h.1 (begins (Body n es s) h.0 d)
@@ -32,9 +29,10 @@ beginning t d = alive t (run (Head Nothing) t) (run_after (Head Nothing) t tt) d
 
 pub no_beginning : (t : List ℕ) → run (Head Nothing) t ≡ Dead → ¬ IsBeginning t
 no_beginning t e b =
-    dead_live
-    (sym (run_append (Head Nothing) t b.rest ∙ ap (λ (s : State). run s b.rest) e ∙ run_dead b.rest)
-    ∙ complete (t ++ b.rest) b.order b.entries b.whole)
+    let dead : Dead ≡ Body b.order b.entries Nothing
+    = sym (run_append (Head Nothing) t b.rest ∙ ap (λ (s : State). run s b.rest) e ∙ run_dead b.rest)
+    ∙ complete (t ++ b.rest) b.order b.entries b.whole in
+    cc
 
 -- a text that leads to all the entries is a sheet
 pub whole : (t : List ℕ) (n : ℕ) (es : List ℤ) → run (Head Nothing) t ≡ Body n es Nothing → length es ≡ n * n → IsSheet t n es
@@ -58,11 +56,8 @@ order_unique t n n' es es' p q = same_order (sym (complete t n es p) ∙ complet
 pub entries_unique : (t : List ℕ) (n n' : ℕ) (es es' : List ℤ) → IsSheet t n es → IsSheet t n' es' → es ≡ es'
 entries_unique t n n' es es' p q = same_entries (sym (complete t n es p) ∙ complete t n' es' q)
 
-head_not : {A : Type 0} {s s' : Seen} {n : ℕ} {es : List ℤ} → Head s ≡ Body n es s' → A
-head_not {A} {s} {s'} {n} {es} e = absurd (let z : ◌≡◌ {A = ℕ} 0 1 = cc in omega arith)
-
 pub head_open : (t : List ℕ) (s : Seen) → run (Head Nothing) t ≡ Head s → (n : ℕ) (es : List ℤ) → ¬ IsSheet t n es
-head_open t s e n es h = head_not (sym e ∙ complete t n es h)
+head_open t s e n es h = let w : Head s ≡ Body n es Nothing = sym e ∙ complete t n es h in cc
 
 pub body_open : (t : List ℕ) (n : ℕ) (es : List ℤ) (s : Seen) → length es < n * n → run (Head Nothing) t ≡ Body n es s → (n' : ℕ) (es' : List ℤ) → ¬ IsSheet t n' es'
 body_open t n es s k e n' es' h =

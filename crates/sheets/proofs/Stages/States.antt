@@ -12,8 +12,9 @@ use borrow.Author.Tests.{ltb-true}
 use Rattle.numbers.specs.Limits.{IsOrder, Legal}
 use Rattle.sheets.specs.declared.number.Seen.{Seen}
 use Rattle.sheets.specs.declared.number.Seen.TheVariants.{Nothing}
+use Rattle.std.specs.Prelude.{Option, Some, None}
 use Rattle.sheets.specs.declared.number.Next.{Next}
-use Rattle.sheets.specs.declared.number.Next.TheVariants.{Go, Value, Stop}
+use Rattle.sheets.specs.declared.number.Next.TheVariants.{Go, Value}
 use Rattle.sheets.specs.Sheet.{decimal, figure}
 use Rattle.sheets.specs.Digits.{after_byte, Allowed}
 use Rattle.sheets.specs.Model.{closing, order_form, entry_form, State, Head, Body, Dead, in_head, in_body, step, run}
@@ -55,25 +56,25 @@ After s w (Head s') = Allowed order_form s' × (state_text (Head s') ≡ state_t
 After s w (Body n es s') = InBody n es s' × (state_text (Body n es s') ≡ state_text s ++ w)
 After s w Dead = Unit {0}
 
-step_head : (s : Seen) (b : ℕ) (r : Next) → Fine order_form s b r → After (Head s) (b ∷ []) (in_head r)
-step_head s b (Go s') h = h
-step_head s b (Value z) h =
+step_head : (s : Seen) (b : ℕ) (r : Option Next) → Fine order_form s b r → After (Head s) (b ∷ []) (in_head r)
+step_head s b (Some (Go s')) h = h
+step_head s b (Some (Value z)) h =
     let w = h.2 in
     let p = w.plain refl in (
       record { order = record { from = p.1; upto = w.size }; count = omega arith; legal = tt; allowed = tt; full = λ e. refl },
       ap₂ (λ (x : List ℕ) (y : ℕ). x ++ (y ∷ [])) (sym (h.1 ∙ ap figure p.0)) (sym h.0),
     )
-step_head s b Stop h = tt
+step_head s b None h = tt
 
-step_body : (n : ℕ) (es : List ℤ) (s : Seen) (b : ℕ) (t : Bool) (r : Next) → InBody n es s → ltb (length es) (n * n) ≡ t
+step_body : (n : ℕ) (es : List ℤ) (s : Seen) (b : ℕ) (t : Bool) (r : Option Next) → InBody n es s → ltb (length es) (n * n) ≡ t
     → Fine (entry_form n (length es)) s b r → After (Body n es s) (b ∷ []) (in_body n es t r)
 step_body n es s b false r l e h = tt
-step_body n es s b true (Go s') l e h =
+step_body n es s b true (Some (Go s')) l e h =
     let k : length es < n * n = ltb-true _ _ e in (
       record { order = l.order; count = l.count; legal = l.legal; allowed = h.0; full = λ q. absurd (omega arith) },
       simp (h.1, append_assoc),
     )
-step_body n es s b true (Value z) l e h =
+step_body n es s b true (Some (Value z)) l e h =
     let k : length es < n * n = ltb-true _ _ e in
     let j : length (es ++ (z ∷ [])) ≡ length es + 1 = length-append es (z ∷ []) in
     let q : b ≡ closing n (length es) = h.0 in
@@ -87,7 +88,7 @@ step_body n es s b true (Value z) l e h =
       },
       simp (lines_append, zero-add, append-nil, append_assoc, x, q),
     )
-step_body n es s b true Stop l e h = tt
+step_body n es s b true None l e h = tt
 
 step_after : (s : State) (b : ℕ) → LegalState s → After s (b ∷ []) (step s b)
 step_after (Head s) b l = step_head s b (after_byte order_form s b) (fine order_form s b l)

@@ -1,14 +1,13 @@
-use native.Mathlib.Omega.{arith}
-use Rattle.sheets.proofs.Bytes.Written.{rows_start, rows_turn}
+use Rattle.sheets.proofs.Bytes.Written.{rows_start, rows_turn, rows_end}
 use Rattle.sheets.proofs.writing.put_rows.Goals as goal
 
-pub loop-left-init : goal.loop-left-init
-loop-left-init c =
-    let a = c.args in
-    (omega arith, rows_start a.n a.figures.now c.line_end-left.ensures)
+pub loop-row-init : goal.loop-row-init
+loop-row-init c = rows_start c.args.out.now c.args.at (cc) (cc) (cc)
 
-pub loop-left-preserved : goal.loop-left-preserved
-loop-left-preserved c =
-    let l = c.loop-left in
-    let e = c.line_end-to.ensures in
-    (omega (arith, e, l.invariant.0), rows_turn c.args.figures.now _ _ _ _ e c.loop-left-test.true l.invariant.1 c.put_line-next.ensures)
+pub loop-row-preserved : goal.loop-row-preserved
+loop-row-preserved c =
+    let (s, l) = c.in-Some.ensures.steps in
+    rows_turn c.loop-row.invariant c.in-Some.row.now s.0 l s.1.0 s.1.1 c.put_line-next.ensures
+
+pub returns : goal.returns
+returns c = rows_end c.loop-row.invariant (λ k. (c.in-None.ensures.steps k).1.0)

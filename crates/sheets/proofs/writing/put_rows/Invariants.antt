@@ -1,11 +1,6 @@
-use Prim.Native.Nat.{◌≤◌}
-use lib.ListN.{length, drop}
-use Rattle.sheets.specs.Sheet.{rows}
-use Rattle.sheets.proofs.Bytes.Puts.{Partly}
+use Rattle.sheets.proofs.Bytes.Written.{Rows}
 use Rattle.sheets.proofs.writing.put_rows.Given as goal
 
-abbrev pub invariant-loop-left : goal.invariant-loop-left
-invariant-loop-left l = (l.from ≤ length l.figures) × Partly l.initial.out l.at (rows l.n l.n l.figures) (rows l.n l.left (drop l.from l.figures)) l.next l.out
-
-abbrev pub decreases-loop-left : goal.decreases-loop-left
-decreases-loop-left l = l.left
+abbrev pub invariant-loop-row : goal.invariant-loop-row
+invariant-loop-row l =
+    let rows = l.row-iterator in Rows l.initial.out l.at l.n l.figures rows.iter.size rows.n rows.iter.rest.now l.next l.out
