@@ -11,7 +11,7 @@ from machine import ROOT
 
 # The definitions that the promises of the public calls rest on: what a reader must believe.
 BELIEVED = [
-    "numbers/specs/Numbers.antt", "numbers/specs/Limits.antt", "numbers/specs/Refusals.antt",
+    "numbers/specs/Numbers.antt", "numbers/specs/Limits.antt", "numbers/specs/Refusals.antt", "numbers/specs/Reasons.antt",
     "tables/specs/Tables.antt", "tables/specs/Views.antt",
     "lifting/specs/Lifting.antt", "lifting/specs/Views.antt",
     "verdict/specs/Verdict.antt",
