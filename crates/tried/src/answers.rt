@@ -36,23 +36,23 @@ impl From<u8> for Call {
 }
 
 pub(crate) fn are(call: Call, text: &[u8]) -> bool {
-    let case = numbers(text);
+    let case = Case(numbers(text));
     let mut out = [UNSAID; ALL];
-    let size = argument(&case, 3).min(ALL);
+    let size = case.argument(3).min(ALL);
     let lent = &mut out[..size];
     let o = call.outcome(&case, lent);
-    three(&case, o) && rest_is(&case, call.seen(&case, lent))
+    case.says(o) && case.shows(call.seen(&case, lent))
 }
 
 impl Call {
     // The three figures: number, need and k; lift has its number alone.
-    fn outcome(self, case: &[i64; ALL], lent: &mut [i64]) -> verdict::Outcome {
-        let n = argument(case, 1);
-        let table = part(case, argument(case, 2));
+    fn outcome(self, case: &Case, lent: &mut [i64]) -> verdict::Outcome {
+        let n = case.argument(1);
+        let table = case.table(case.argument(2));
         match self {
             Call::Inverse | Call::Row => verdict::inverse(n, table, lent),
             Call::Lift | Call::Block => {
-                let (lifts, exponent) = (argument(case, 4), small(argument(case, 5)));
+                let (lifts, exponent) = (case.argument(4), small(case.argument(5)));
                 match lifting::lift(n, lifts, exponent, table, lent) {
                     Ok(()) => DONE,
                     Err(refusal) => verdict::Outcome::from(refusal),
@@ -63,43 +63,51 @@ impl Call {
     }
 
     // The lent buffer, or a row of the inverse, or a block of the expansion.
-    fn seen<'a>(self, case: &[i64; ALL], left: &'a [i64]) -> &'a [i64] {
+    fn seen<'a>(self, case: &Case, left: &'a [i64]) -> &'a [i64] {
         match self {
-            Call::Row => tables::row(argument(case, 1), left, argument(case, 4)),
+            Call::Row => tables::row(case.argument(1), left, case.argument(4)),
             Call::Block => lifting::block(
-                argument(case, 1),
-                argument(case, 4),
+                case.argument(1),
+                case.argument(4),
                 left,
-                argument(case, 6),
+                case.argument(6),
             ),
             Call::Verdict | Call::Inverse | Call::Lift => left,
         }
     }
 }
 
-fn three(case: &[i64; ALL], o: verdict::Outcome) -> bool {
-    is(case, NUMBER, o.number) && is(case, NEED, o.exponent) && is(case, LIFTS, o.lifts)
-}
+// The numbers of a case, each at its place (reading.rt).
+#[derive(Drop)]
+struct Case([i64; ALL]);
 
-fn is(case: &[i64; ALL], i: usize, v: u32) -> bool {
-    at(case, i) == i64::from(v)
-}
+impl Case {
+    // Argument i, by its size. (A cast: std has no From of a u64 for usize, and no case has one that long.)
+    fn argument(&self, i: usize) -> usize {
+        at(&self.0, i).unsigned_abs() as usize
+    }
 
-fn argument(case: &[i64; ALL], i: usize) -> usize {
-    at(case, i).unsigned_abs() as usize
+    // The table, of so many numbers; of more than there are, the whole case.
+    fn table(&self, count: usize) -> &[i64] {
+        self.0[TABLE..].get(..count).unwrap_or(&self.0)
+    }
+
+    // Whether these three figures are given.
+    fn says(&self, o: verdict::Outcome) -> bool {
+        self.gives(NUMBER, o.number) && self.gives(NEED, o.exponent) && self.gives(LIFTS, o.lifts)
+    }
+
+    fn gives(&self, i: usize, v: u32) -> bool {
+        at(&self.0, i) == i64::from(v)
+    }
+
+    // Whether what is given after the three figures is a list, and no more.
+    fn shows(&self, left: &[i64]) -> bool {
+        let given = &self.0[REST..];
+        left.iter().enumerate().all(|(k, v)| *v == at(given, k)) && at(given, left.len()) == UNSAID
+    }
 }
 
 fn small(v: usize) -> u32 {
     u32::try_from(v).unwrap_or(u32::MAX)
-}
-
-// Whether what is given after the three figures is a list, and no more.
-fn rest_is(case: &[i64; ALL], left: &[i64]) -> bool {
-    let given = &case[REST..];
-    left.iter().enumerate().all(|(k, v)| *v == at(given, k)) && at(given, left.len()) == UNSAID
-}
-
-// The table of a case, of so many numbers; of more than there are, the whole case.
-fn part(case: &[i64; ALL], count: usize) -> &[i64] {
-    case[TABLE..].get(..count).unwrap_or(case)
 }
