@@ -23,7 +23,8 @@ pub fn has_inverse(n: usize, a: &[i64]) -> bool
     true
 }
 
-// Row r of p becomes that of the identity; false where no word from r on has bit r.
+// Row r of p becomes that of the identity; false where no word from r on has bit r. (Inverting has a settle too: one trait for both would have five methods with
+// laws for two instances.)
 fn settle(r: usize, p: &mut [u32]) -> bool
     requires { (r < length p.old) × (length p.old ≤ 32) }
     ensures { Says (Settles (length p.old) r (bits p.old) (bits p.new)) (None 2 (length p.old) r (bits p.old)) result }

@@ -89,7 +89,8 @@ pub fn within(n: usize, buf: &[i64], o: usize, c: u64) -> bool
     entries::all(n, n, buf, o, |v| v.unsigned_abs() <= c)
 }
 
-// Entry (i, j) of the product of the tables at places p and q. (A for and not `sum`: each sum on the way has to fit.)
+// Entry (i, j) of the product of the tables at places p and q. (A for and not `sum`: each sum on the way has to fit. Places and not slices: as a slice, a block would
+// be cut out anew for each entry.)
 pub fn dot(n: usize, a: &[i64], p: usize, b: &[i64], q: usize, i: usize, j: usize) -> i64
     requires { Dot n a.now p b.now q i j }
     ensures { result ≡ (table_at n a.now p ·⟨ n ⟩ table_at n b.now q) i j }

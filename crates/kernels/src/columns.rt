@@ -1,4 +1,5 @@
-// Work on the first column of blocks alone: that of a residue is known without the others.
+// Work on the first column of blocks alone: that of a residue is known without the others. (`shrink` and `vanishes` are those of blocks for
+// one column: they ask and promise for that column alone.)
 ghost use Rattle.std.specs.Prelude.{ℕ, ◌^◌};
 ghost use Rattle.numbers.specs.Limits.{IsOrder};
 ghost use Rattle.numbers.specs.Remainder.{rem};

@@ -40,7 +40,7 @@ pub fn lift(
     Ok(())
 }
 
-// Block j of an expansion, as a part of the caller's own buffer; or the empty stretch at its start.
+// Block j of an expansion, as a part of the caller's own buffer; or the empty stretch at its start, which document 01 asks for: no Option.
 pub fn block(n: usize, lifts: usize, expansion: &[i64], j: usize) -> &[i64]
     ensures { BlockGives n lifts expansion.entry j result }
 {
@@ -52,7 +52,7 @@ pub fn block(n: usize, lifts: usize, expansion: &[i64], j: usize) -> &[i64]
     }
 }
 
-// The first refusal of what lift is given; size is the length of the lent expansion.
+// The first refusal of what lift is given; size is the length of the lent expansion. (`n as u64`: std has no From of a usize, and the cast loses nothing.)
 fn early(n: usize, s: usize, e: u32, a: &[i64], size: usize) -> Result<(), Refusal>
     ensures { Early n s e a.now size (number_of result) }
 {
@@ -70,7 +70,7 @@ fn early(n: usize, s: usize, e: u32, a: &[i64], size: usize) -> Result<(), Refus
     Ok(())
 }
 
-// Whether a buffer of `size` numbers is an expansion with a block j.
+// Whether a buffer of `size` numbers is an expansion with a block j. (One expression; that of a row is another.)
 fn has_block(n: usize, lifts: usize, size: usize, j: usize) -> bool
     ensures { Tells (HasBlock n lifts size j) result }
 {

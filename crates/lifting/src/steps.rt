@@ -14,7 +14,7 @@ pub struct Lifter<'a> {
 }
 
 // (The hints are for speed: without them a verdict takes a hundredth more instructions, for what is passed in a struct is not known to LLVM in the callee.
-// `digit` stays a call.)
+// `digit` stays a call. Blocks are named by their numbers, for a step reads one and writes others of one buffer: docs/DECISIONS.md, 22.)
 impl Lifter<'_> {
     // Writes B_0 into block 0 and R_0 into block 1, for a table that has an inverse modulo 2.
     #[inline(always)]

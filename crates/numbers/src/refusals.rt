@@ -15,7 +15,7 @@ pub enum Refusal {
 }
 
 impl Refusal {
-    // The reason's number.
+    // The reason's number, which is that of its case.
     pub fn number(self) -> u32
         ensures { result ≡ refusal_number self }
     {
@@ -27,7 +27,7 @@ impl Refusal {
 pub fn cells(n: usize) -> Result<usize, Refusal>
     ensures { Sized n result }
 {
-    if n < 1 || super::MOST_ORDER < n {
+    if !(1..=super::MOST_ORDER).contains(&n) {
         return Err(Refusal::Order);
     }
     Ok(n * n)

@@ -43,7 +43,7 @@ pub fn is_legal(n: usize, table: &[i64]) -> bool
     first_outside(n, table).is_none()
 }
 
-// The place of the first entry outside the range, row by row.
+// The place of the first entry outside the range, row by row: nested loops left by a label, as document 01 asks.
 pub fn first_outside(n: usize, table: &[i64]) -> Option<Place>
     requires { (n ≤ 32) × (length table.now ≡ n * n) }
     ensures { Finds n table.now result }

@@ -7,7 +7,8 @@ ghost use Rattle.tables.specs.Views.{HasRow, RowGives};
 pub mod checks;
 pub mod residues;
 
-// Row i (from 0) of a table of order n, as a part of the caller's own buffer; or the empty stretch at its start.
+// Row i (from 0) of a table of order n, as a part of the caller's own buffer; or the empty stretch at its start, which document
+// 01 asks for: no Option.
 pub fn row(n: usize, table: &[i64], i: usize) -> &[i64]
     ensures { RowGives n table.entry i result }
 {
@@ -18,7 +19,7 @@ pub fn row(n: usize, table: &[i64], i: usize) -> &[i64]
     }
 }
 
-// Whether a table of `size` numbers has a row i at order n.
+// Whether a table of `size` numbers has a row i at order n. (One expression; that of a block is another.)
 fn has_row(n: usize, size: usize, i: usize) -> bool
     ensures { Tells (HasRow n size i) result }
 {

@@ -1,4 +1,5 @@
-// Lists of residues modulo 2^32, in 32 bits each, so that the inner loops of products run on several entries at a time.
+// Lists of residues modulo 2^32, in 32 bits each, so that the inner loops of products run on several entries at a time. (Four
+// loops and not one with a closure: each body is a line, over another pair of types.)
 ghost use Rattle.std.specs.Prelude.{ℕ, ◌+◌, ◌*◌, ◌%◌, ◌^◌, ◌≤◌, ◌<◌, length, get_or, pos};
 ghost use Rattle.numbers.specs.Remainder.{residue};
 ghost use Rattle.tables.specs.Buffer.{Wrote};

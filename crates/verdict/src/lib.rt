@@ -134,7 +134,7 @@ fn decide(n: usize, a: &[i64], buf: &mut [i64; BUFFER]) -> Ruling
     }
 }
 
-// The same for a table that is not refused.
+// The same for a table that is not refused. (`n as u64`: std has no From of a usize, and the cast loses nothing.)
 fn ruled(n: usize, a: &[i64], buf: &mut [i64; BUFFER]) -> Ruling
     requires { Lawful n a.now }
     ensures { VerdictGives n a.now (outcome_of result) × Leaves n (2 ^ 32) a.now buf.new (outcome_of result) }
@@ -226,7 +226,7 @@ pub fn inverse_in(n: usize, table: &[i64], buf: &mut [i64; BUFFER]) -> Outcome
     }
 }
 
-// The table B with A·B = I, into out.
+// The table B with A·B = I, into out. (Two checks before the work, for its own buffer: those of the table come with the work.)
 #[tactic(auto, using(crate::proofs::Standing::left_as_it_was))]
 pub fn inverse(n: usize, table: &[i64], out: &mut [i64]) -> Outcome
     ensures { InverseGives n table.now out.old result out.new }

@@ -10,8 +10,7 @@ use lib.ListN.{get_or}
 use lib.Signed.{shr_z, mag, mag_shr}
 use mir.Syntax.{w64}
 use mir.Val.{SFits}
-use Rattle.numbers.proofs.Algebra.IntRing.{nat_abs-*ℤ}
-use Rattle.std.proofs.lemmas.Int.{ints, fits_signed_from_abs}
+use Rattle.std.proofs.lemmas.Int.{ints, fits_signed_from_abs, unsigned_abs-mul}
 use Rattle.numbers.proofs.Algebra.IntOrder.{*ℤ-bound, nat_abs_sub}
 use Rattle.numbers.proofs.Machine.{rd, rd_is, rd_ok, rd_got}
 use Rattle.numbers.specs.Numbers.{IsRem}
@@ -36,10 +35,10 @@ exact_at {i = i} {j = j} x h k = record { c = x.c; d = x.d; left = λ l m. x.lef
 -- a sum that gains a product, where their magnitudes leave room: both fit, and are read back as they are
 module _ (s x y : ℤ) (room : nat_abs s + nat_abs x * nat_abs y < 2 ^ 63) where
   gain_fits : SFits w64 (x *ℤ y)
-  gain_fits = fits_signed_from_abs w64 (x *ℤ y) (omega (arith, room, nat_abs-*ℤ x y))
+  gain_fits = fits_signed_from_abs w64 (x *ℤ y) (omega (arith, room, unsigned_abs-mul x y))
 
   gained_fits : SFits w64 (s +ℤ x *ℤ y)
-  gained_fits = fits_signed_from_abs w64 (s +ℤ x *ℤ y) (omega (arith, ints, room, nat_abs-*ℤ x y))
+  gained_fits = fits_signed_from_abs w64 (s +ℤ x *ℤ y) (omega (arith, ints, room, unsigned_abs-mul x y))
 
   gain_reads : rd (s +ℤ rd (x *ℤ y)) ≡ s +ℤ x *ℤ y
   gain_reads = rw (rd_is gain_fits) (rd_is gained_fits)
