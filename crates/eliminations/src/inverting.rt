@@ -10,7 +10,7 @@ ghost use Rattle.eliminations.specs.Inverting.{front, back, Inverted, Zeros, Beg
 
 use tables::residues::{fold_row, scale_row, take, widen};
 
-// Block o becomes some inverse of the table a modulo 2^32, with entries within 2^32; every other block is as it was.
+// Block o becomes some inverse of the table a modulo 2^32, with entries within 2^32; every other block is as it was. (By its number: `Inverted` speaks of the others.)
 pub fn inverse(n: usize, a: &[i64], buf: &mut [i64], o: usize)
     requires { (Lawful n a.now) × ((HasInverseMod n 2 (entries n a.now)) × (Has n buf.old o)) }
     ensures { Inverted n (2 ^ 32) (entries n a.now) o buf.old buf.new }
@@ -59,7 +59,7 @@ fn unload(t: &[[u32; 64]], out: &mut [i64])
     }
 }
 
-// Column r of the table becomes that of the identity.
+// Column r of the table becomes that of the identity. (Parity has a settle too: see there. That r is a row, and an odd entry there is, are facts of this moment.)
 fn settle(r: usize, t: &mut [[u32; 64]])
     requires inside { (r < length t.old) × (length t.old ≤ 32) }
     requires odd_below { ¬ None 2 (length t.old) r (front t.old ᵀ) }
@@ -140,7 +140,7 @@ fn fold_front(w: usize, x: u32, y: &[u32], z: &mut [u32])
     fold_row(x, y, &mut z[..w]);
 }
 
-// The first w residues of t, times u.
+// The first w residues of t, times u. (A function of its own for the same reason.)
 fn scale_front(w: usize, u: u32, t: &mut [u32])
     requires { w ≤ length t.old }
     ensures { Wrote 0 (λ (j : ℕ). (0 + u * get_or t.old j 0) % 2 ^ 32) 0 w t.old t.new }

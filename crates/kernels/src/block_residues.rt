@@ -1,4 +1,5 @@
-// The product of a block and a table of residues modulo 2^32, row by row; that of blocks is exact, in whole numbers.
+// The product of a block and a table of residues modulo 2^32, row by row; that of blocks is exact, in whole numbers. Blocks by number: docs/
+// DECISIONS.md, 22.
 ghost use Rattle.std.specs.Prelude.{◌^◌, ◌<◌};
 ghost use Rattle.tables.specs.Tables.{block};
 ghost use Rattle.tables.specs.Buffer.{BlockPut, RowPut};

@@ -43,7 +43,7 @@ pub(super) fn all<F: Fn(i64) -> bool>(n: usize, w: usize, buf: &[i64], o: usize,
     true
 }
 
-// Entry (i, j) of block s less a times block m, divided by 2^e and rounded down.
+// Entry (i, j) of block s less a times block m, divided by 2^e and rounded down. (Blocks by number, as everywhere here: docs/DECISIONS.md, 22.)
 pub(super) fn shrunk(
     n: usize,
     e: u32,

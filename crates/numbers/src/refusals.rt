@@ -15,7 +15,7 @@ pub enum Refusal {
 }
 
 impl Refusal {
-    // The reason's number, which is that of its case.
+    // The reason's number, which is that of its case. (No From: `Refusal::Order.number()` says it as plainly.)
     pub fn number(self) -> u32
         ensures { result ≡ refusal_number self }
     {

@@ -39,12 +39,12 @@ fn put_report(text: &[u8], out: &mut [u8]) -> usize
     }
 }
 
-// The line of a text that is no sheet.
+// The line of a text that is no sheet: its 9 is a number of the report (`IsReport`).
 fn put_refusal(p: sheets::Place, out: &mut [u8]) -> usize
     requires { (p.line ≤ 9220) × (p.column ≤ 9220) }
     ensures { Put out.old 0 (line (figures (9 ∷ place_of p))) result out.new }
 {
-    // `u32` has no `From` of a `usize`: these casts are proved to lose nothing
+    // `u32` has no `From` of a `usize`: these casts, and that of n in `certify`, are proved to lose nothing
     let row = p.line as u32;
     let column = p.column as u32;
     put_four(9, row, column, p.reason.number(), out)

@@ -5,7 +5,7 @@ ghost use Rattle.sheets.specs.Model.{refusal, moved, scan, Sane, Arrived, Body, 
 use super::number::{Form, Next, Seen};
 use super::{Place, Reason};
 
-// A place in a text.
+// A place in a text, which goes by value beside it, as document 01 asks.
 #[derive(Clone, Copy)]
 pub(crate) struct Cursor {
     pub(crate) line: usize,

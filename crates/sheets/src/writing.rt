@@ -53,7 +53,8 @@ fn put_sign(out: &mut [u8], at: usize, negative: bool) -> usize
     at
 }
 
-// The digits of m. The last digit comes first, so a loop would want a buffer of its own.
+// The digits of m. The last digit comes first, so a loop would want a buffer of its own; and `write!` answers Err where there is too little room, of which its
+// contract says nothing.
 fn put_digits(out: &mut [u8], at: usize, m: u64) -> usize
     ensures { Put out.old at (decimal m) result out.new }
 {

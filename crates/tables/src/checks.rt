@@ -1,4 +1,4 @@
-// The checks of a lent table.
+// The checks of a lent table. (Order and list are asked and not a type: some of these answer for n = 0, and the calls for every n.)
 ghost use Rattle.std.specs.Prelude.{◌≡◌, ◌*◌, ◌≤◌, length};
 ghost use Rattle.numbers.specs.Limits.{IsOrder, IsEntry, Legal};
 ghost use Rattle.numbers.specs.Reasons.{number_of};

@@ -58,7 +58,7 @@ impl From<Refusal> for Outcome {
     }
 }
 
-// Number, exponent and lifts of a ruling.
+// Number, exponent and lifts of a ruling. (A function and no From: docs/CALLS.md promises it under this name.)
 pub fn outcome_of(v: Ruling) -> Outcome
     ensures { result ≡ outcome_of v }
 {
