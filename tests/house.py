@@ -153,12 +153,12 @@ def wrong_builds():
 
 def complaints(crate, place, text):
     """The names of what a log says is refused in a proof: declarations of its files, and goals that are left to the prover's own search, which it names where it
-    says that they are open: after the function's name, and at lines of the function."""
+    says that they are open: after the function's name, and at lines of the function. That a rewrite finds nothing to rewrite says only that a proof no longer fits."""
     function = "::".join([crate, *place.split("/")])
     files = {f"src/{path.name}": functions(path) for path in CRATES.glob(f"{crate}/src/*.rt")}
     found = []
     for line in text.splitlines():
-        if declared := re.match(rf"(?:\./)?proofs/{place}(?:/(?:Proof|Invariants|Answers))?\.antt:\d+:\d+: error: `([^`]+)`:", line):
+        if declared := re.match(rf"(?:\./)?proofs/{place}(?:/(?:Proof|Invariants|Answers))?\.antt:\d+:\d+: error: `([^`]+)`:(?! `rw`: no occurrence)", line):
             found.append(declared.group(1))
         elif searched := re.match(rf"fn {function}: no proof: .*did not prove ([^;]*)", line):
             found += re.findall("`([^`]+)`", searched.group(1))

@@ -76,13 +76,22 @@ module _ (v : ℤ) (e : ℕ) (range : (1 ≤ e) × (e ≤ 32)) (fits : SFits w64
   quo_fits : SFits w64 (quo v e)
   quo_fits = record { sfits = lt_of_le_of_lt (mag_shr (v +ℤ off e) (2 ^ e)) near_fits.sfits }
 
-  pub back_fits : SFits w64 (quo v e *ℤ pos (2 ^ e))
+  back_fits : SFits w64 (quo v e *ℤ pos (2 ^ e))
   back_fits = fits_signed_from_abs w64 (quo v e *ℤ pos (2 ^ e)) (omega (arith, back_size e range.1 v range.0))
 
-  pub rest_fits : SFits w64 (v -ℤ quo v e *ℤ pos (2 ^ e))
+  rest_fits : SFits w64 (v -ℤ quo v e *ℤ pos (2 ^ e))
   rest_fits = fits_signed_from_abs w64 (v -ℤ quo v e *ℤ pos (2 ^ e)) (omega (arith, rem_pow_size v e range.0, pow_32 e range.1))
 
-  -- the multiple that the code takes away, as it is read back of h = 2^(e - 1) and x = 2^e
-  pub reads : (h x : ℤ) → rd h ≡ pos (2 ^ (e - 1)) → rd x ≡ pos (2 ^ e)
-      → rd (shr_z (rd (rd v +ℤ rd (rd h -ℤ pos 1))) (2 ^ e)) *ℤ rd x ≡ quo v e *ℤ pos (2 ^ e)
-  reads h x a b = simp (a, b, rd_is fits, rd_is off_fits, rd_is near_fits, rd_is quo_fits) refl
+  -- what the code computes, as it is read back of h = 2^(e - 1) and x = 2^e, where d is 1: a multiple of 2^e, and v less that
+  module _ (h d x : ℤ) (half : rd h ≡ pos (2 ^ (e - 1))) (one : d ≡ pos 1) (whole : rd x ≡ pos (2 ^ e)) where
+    multiple : rd (shr_z (rd (rd v +ℤ rd (rd h -ℤ d))) (2 ^ e)) *ℤ rd x ≡ quo v e *ℤ pos (2 ^ e)
+    multiple = simp (one, half, whole, rd_is fits, rd_is off_fits, rd_is near_fits, rd_is quo_fits) refl
+
+    pub multiple_fits : SFits w64 (rd (shr_z (rd (rd v +ℤ rd (rd h -ℤ d))) (2 ^ e)) *ℤ rd x)
+    multiple_fits = rw multiple back_fits
+
+    pub remainder_fits : SFits w64 (rd v -ℤ rd (rd (shr_z (rd (rd v +ℤ rd (rd h -ℤ d))) (2 ^ e)) *ℤ rd x))
+    remainder_fits = rw (multiple, rd_is back_fits, rd_is fits) rest_fits
+
+    pub remainder_is : IsRem (2 ^ e) v (rd (rd v -ℤ rd (rd (shr_z (rd (rd v +ℤ rd (rd h -ℤ d))) (2 ^ e)) *ℤ rd x)))
+    remainder_is = rw (multiple, rd_is back_fits, rd_is fits, rd_is rest_fits) (rem_pow_is v e range.0)
