@@ -70,7 +70,8 @@ fn early(n: usize, s: usize, e: u32, a: &[i64], size: usize) -> Result<(), Refus
     Ok(())
 }
 
-// Whether a buffer of `size` numbers is an expansion with a block j. (One expression; that of a row is another.)
+// Whether a buffer of `size` numbers is an expansion with a block j. (Not one function with tables' `has_row`: the lengths
+// differ.)
 fn has_block(n: usize, lifts: usize, size: usize, j: usize) -> bool
     ensures { Tells (HasBlock n lifts size j) result }
 {

@@ -19,7 +19,7 @@ pub fn row(n: usize, table: &[i64], i: usize) -> &[i64]
     }
 }
 
-// Whether a table of `size` numbers has a row i at order n. (One expression; that of a block is another.)
+// Whether a table of `size` numbers has a row i at order n. (Not one function with lifting's `has_block`: the lengths differ.)
 fn has_row(n: usize, size: usize, i: usize) -> bool
     ensures { Tells (HasRow n size i) result }
 {
