@@ -13,11 +13,9 @@ pub struct Lifter<'a> {
     pub ghost setting: { Setting n (2 ^ exponent) table.now } by { Prim.hlevel (props, legal_prop) },
 }
 
-// (The hints are for speed: without them a verdict takes a hundredth more instructions, for what is passed in a struct is not known to LLVM in the callee.
-// `digit` stays a call. Blocks are named by their numbers, for a step reads one and writes others of one buffer: docs/DECISIONS.md, 22.)
+// (Blocks are named by their numbers, for a step reads one and writes others of one buffer: docs/DECISIONS.md, 22.)
 impl Lifter<'_> {
     // Writes B_0 into block 0 and R_0 into block 1, for a table that has an inverse modulo 2.
-    #[inline(always)]
     pub fn start(self, buf: &mut [i64])
         requires { ToStart self.n 2 self.table.now buf.old }
         ensures { let l = self.entry in Started l.n (2 ^ l.exponent) (entries l.n l.table.now) buf.old buf.new }
@@ -27,7 +25,6 @@ impl Lifter<'_> {
     }
 
     // From an inverse modulo 2^exponent in block 0: the balanced one, B_0, and its residue R_0 in block 1.
-    #[inline(always)]
     pub fn base(self, buf: &mut [i64])
         requires { ToBase self.n (2 ^ self.exponent) self.table.now buf.old }
         ensures { let l = self.entry in Started l.n (2 ^ l.exponent) (entries l.n l.table.now) buf.old buf.new }
@@ -38,7 +35,6 @@ impl Lifter<'_> {
     }
 
     // From B_0 in block 0 and R_i in block r: M_i in block m and R_{i+1} in block s.
-    #[inline(always)]
     pub fn step(self, buf: &mut [i64], r: usize, m: usize, s: usize)
         requires { ToStep self.n (2 ^ self.exponent) self.table.now buf.old r m s }
         ensures { let l = self.entry in Stepped l.n (2 ^ l.exponent) (entries l.n l.table.now) buf.old buf.new r m s }
@@ -57,7 +53,6 @@ impl Lifter<'_> {
     }
 
     // The same for the first column of that residue alone; nothing is said of the other columns of blocks d and r.
-    #[inline(always)]
     pub fn column_digit(self, buf: &mut [i64], r: usize, d: usize)
         requires { ToColumnDigit self.n (2 ^ self.exponent) self.table.now buf.old r d }
         ensures { let l = self.entry in ColumnDigited l.n (2 ^ l.exponent) l.table.now buf.old buf.new r d }
