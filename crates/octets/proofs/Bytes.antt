@@ -5,7 +5,7 @@ use Prim.Native.Nat.{ℕ, zero, suc, ◌+◌, ◌-◌, ◌*◌, ◌/◌, ◌%◌
 use native.Mathlib.Nat.{pow-suc, div-one, div-div-eq-div-mul}
 use native.Mathlib.Omega.{arith}
 use lib.IntN.{ℤ, pos, negsuc}
-use lib.ListN.{length, get_or, take}
+use lib.ListN.{length, length-append, get_or, take}
 use lib.Seq.{take-suc}
 use mir.Syntax.{w32, w64}
 use mir.Val.{to_z, of_z}
@@ -25,6 +25,15 @@ length_decode m [] e = omega arith
 signed32_is : (u : ℕ) → to_z w32 u ≡ signed32 u
 signed32_is u = grind arith
 
+-- one number, as std's conversions give it
+pub decode_four : (b : List ℕ) → length b ≡ 4 → decode b ≡ to_z w32 (from_le_bytes w32 b) ∷ []
+decode_four (a ∷ b ∷ c ∷ d ∷ []) e = ap (λ (z : ℤ). z ∷ []) (sym (signed32_is (a + b * 256 ^ 1 + c * 256 ^ 2 + d * 256 ^ 3) ∙ ap signed32 (omega arith)))
+decode_four (a ∷ b ∷ c ∷ d ∷ x ∷ t) e = absurd (omega arith)
+decode_four (a ∷ b ∷ c ∷ []) e = absurd (omega arith)
+decode_four (a ∷ b ∷ []) e = absurd (omega arith)
+decode_four (a ∷ []) e = absurd (omega arith)
+decode_four [] e = absurd (omega arith)
+
 -- number i is that of chunk i
 pub decode_at : (m : ℕ) (b : List ℕ) (i : ℕ) → i < m → length b ≡ 4 * m → to_z w32 (from_le_bytes w32 (get_or (first_chunks 4 m b) i [])) ≡ get_or (decode b) i (pos 0)
 decode_at zero b i h e = absurd (omega arith)
@@ -34,6 +43,19 @@ decode_at (suc m) (a ∷ b ∷ c ∷ []) i h e = absurd (omega arith)
 decode_at (suc m) (a ∷ b ∷ []) i h e = absurd (omega arith)
 decode_at (suc m) (a ∷ []) i h e = absurd (omega arith)
 decode_at (suc m) [] i h e = absurd (omega arith)
+
+chunk_long : (m : ℕ) (b : List ℕ) (i : ℕ) → i < m → length b ≡ 4 * m → length (get_or (first_chunks 4 m b) i []) ≡ 4
+chunk_long zero b i h e = absurd (omega arith)
+chunk_long (suc m) (a ∷ b ∷ c ∷ d ∷ t) zero h e = refl
+chunk_long (suc m) (a ∷ b ∷ c ∷ d ∷ t) (suc i) h e = chunk_long m t i (omega arith) (omega arith)
+chunk_long (suc m) (a ∷ b ∷ c ∷ []) i h e = absurd (omega arith)
+chunk_long (suc m) (a ∷ b ∷ []) i h e = absurd (omega arith)
+chunk_long (suc m) (a ∷ []) i h e = absurd (omega arith)
+chunk_long (suc m) [] i h e = absurd (omega arith)
+
+-- the one number of chunk i
+pub decode_chunk : (m : ℕ) (b : List ℕ) (i : ℕ) {v : ℤ} → i < m → length b ≡ 4 * m → v ∷ [] ≡ decode (get_or (first_chunks 4 m b) i []) → v ≡ get_or (decode b) i (pos 0)
+decode_chunk m b i h e q = ap (λ (l : List ℤ). get_or l 0 (pos 0)) (q ∙ decode_four (get_or (first_chunks 4 m b) i []) (chunk_long m b i h e)) ∙ decode_at m b i h e
 
 -- ---- eight bytes a number
 
@@ -48,6 +70,10 @@ least_first_at i (suc k) u = ap₂ (λ (a : ℕ) (l : List ℕ). a ∷ l) (low i
     low : (i : ℕ) → byte_at i u ≡ u / 256 ^ i % 256
     low zero = ap (λ (v : ℕ). v % 256) (sym (div-one u))
     low (suc i) = refl
+
+pub length_encode : (l : List ℤ) → length (encode l) ≡ 8 * length l
+length_encode [] = refl
+length_encode (v ∷ l) = omega (arith, length-append (least_first 8 (bits64 v)) (encode l), length_encode l)
 
 pub eight_bytes : (v : ℤ) → to_le_bytes w64 (of_z w64 v) ≡ least_first 8 (bits64 v)
 eight_bytes v = least_first_at 0 8 (of_z w64 v) ∙ ap (least_first 8) (div-one (of_z w64 v) ∙ bits64_is v)

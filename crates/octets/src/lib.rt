@@ -1,7 +1,7 @@
 // Numbers as bytes, two's complement and least byte first: four bytes a number in, eight out.
 #![tactic(auto)]
 
-ghost use Rattle.std.specs.Prelude.{◌≡◌, ◌*◌, length};
+ghost use Rattle.std.specs.Prelude.{◌≡◌, ◌*◌, [], ◌∷◌, length};
 ghost use Rattle.octets.specs.Bytes.{decode, encode};
 
 // The numbers of four bytes each.
@@ -13,8 +13,16 @@ pub fn read(bytes: &[u8], out: &mut [i64])
 
     // By index: under a `zip` of `iter_mut` no invariant can speak of `out`.
     for (i, v) in out.iter_mut().enumerate() {
-        *v = i64::from(i32::from_le_bytes(fours[i]));
+        *v = entry(fours[i]);
     }
+}
+
+// The number of four bytes.
+#[tactic(auto, using(crate::proofs::Bytes::decode_four))]
+fn entry(four: [u8; 4]) -> i64
+    ensures { (result ∷ []) ≡ decode four }
+{
+    i64::from(i32::from_le_bytes(four))
 }
 
 // The eight bytes of each number.
