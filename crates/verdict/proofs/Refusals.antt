@@ -9,7 +9,6 @@ use lib.IntN.{ℤ}
 use lib.ListN.{length}
 use Rattle.numbers.specs.Limits.{IsNarrow, Lawful, table_refusals}
 use Rattle.numbers.specs.Numbers.{IsNeed, IsLifts}
-use Rattle.numbers.proofs.Answers.Reasons.{refusal_some}
 use Rattle.numbers.specs.Refusals.{Refusals, done, ◌when◌then◌, ◌thereafter◌, Gives, Lowest}
 use Rattle.numbers.proofs.Answers.Decisions.{stable}
 use Rattle.numbers.proofs.Answers.Refusals.{Passes, passes_on, refused_stays, from_second, learnt, gives_lowest}
@@ -65,10 +64,10 @@ found_none {n} X A M (inl e) t w = (subst (FindingTells n X A M) e t) (whole_mod
 found_none {n} X A M (inr e) t w = (subst (FindingTells n X A M) e t).1 w
 
 -- what is no yes has a number
-pub not_yes : (r : Ruling) → ((e l : ℕ) → ¬ (r ≡ Yes e l)) → (outcome_of r).number ≢ 0
-not_yes (Yes e l) f z = f e l refl
-not_yes (No e l) f z = omega arith
-not_yes (Refused r) f z = refusal_some r z
+pub not_yes : {n : ℕ} {A : List ℤ} (r : Ruling) → VerdictGives n A (outcome_of r) → ((e l : ℕ) → ¬ (r ≡ Yes e l)) → (outcome_of r).number ≢ 0
+not_yes (Yes e l) v f z = f e l refl
+not_yes (No e l) v f z = omega arith
+not_yes (Refused k) v f z = zeros_untold v.values (subst Told (sym z) after_0)
 
 -- ---- the lists: what follows their head
 

@@ -39,8 +39,8 @@ yes_by_rule {n} {e} {l} {A} v = (rule_right (passed n A v.number)).1 (v.whole re
 pub no_by_rule : {n e l : ℕ} {A : List ℤ} → VerdictGives n A (outcome_of (No e l)) → ¬ RuleYes n A
 no_by_rule {n} {e} {l} {A} v y = let p = passed_no n A v.number in p.1 ((rule_right p.0).0 y)
 
--- no refusal is by 7 or by 0
-pub refused_by : {n k : ℕ} {A : List ℤ} → VerdictGives n A (answer k 0 0) → (k ≡ 1) ⊎ ((k ≡ 3) ⊎ (k ≡ 4))
+-- so `Refused(7)` is no answer, and neither is `Refused(0)`
+pub refused_by : {n k : ℕ} {A : List ℤ} → VerdictGives n A (outcome_of (Refused k)) → (k ≡ 1) ⊎ ((k ≡ 3) ⊎ (k ≡ 4))
 refused_by {n} {k} {A} v = go v.number
   where
     go : Gives (verdict_refusals n A) k → (k ≡ 1) ⊎ ((k ≡ 3) ⊎ (k ≡ 4))
@@ -51,7 +51,7 @@ refused_by {n} {k} {A} v = go v.number
     go (inr (o, inr (a, inr (p, inr (w, e))))) = absurd (zeros_untold v.values (subst Told (sym e) after_0))
 
 -- so of the reasons, the verdict gives three
-pub refused_for : {n : ℕ} {A : List ℤ} (r : Refusal) → VerdictGives n A (outcome_of (Refused r)) → (r ≡ Order) ⊎ ((r ≡ Length) ⊎ (r ≡ Entry))
+pub refused_for : {n : ℕ} {A : List ℤ} (r : Refusal) → VerdictGives n A (outcome_of (Refused (refusal_number r))) → (r ≡ Order) ⊎ ((r ≡ Length) ⊎ (r ≡ Entry))
 refused_for {n} {A} r v = go (refused_by v)
   where
     go : (refusal_number r ≡ 1) ⊎ ((refusal_number r ≡ 3) ⊎ (refusal_number r ≡ 4)) → (r ≡ Order) ⊎ ((r ≡ Length) ⊎ (r ≡ Entry))

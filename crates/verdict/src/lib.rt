@@ -21,12 +21,13 @@ const MOST_DIGIT: u64 = 8388608;
 // The buffer for the work: four blocks of the largest order.
 pub const BUFFER: usize = 4096;
 
-// The verdict: yes or no, each with exponent and lifts, or refused for a reason, whose number document 01 says.
+// The verdict: yes or no, each with exponent and lifts, or refused by a number. (Not by its reason: document 01 asks for the number, and
+// outcome_of answers for every one.)
 #[derive(Clone, Copy)]
 pub enum Ruling {
     Yes { exponent: u32, lifts: u32 },
     No { exponent: u32, lifts: u32 },
-    Refused(Refusal),
+    Refused(u32),
 }
 
 // What the work finds: no inverse modulo 2; one modulo 2, but none whole; or a whole one.
@@ -50,11 +51,7 @@ impl From<Refusal> for Outcome {
     ghost from_gives = { λ r o. o ≡ answer (refusal_number r) 0 0 };
 
     fn from(refusal: Refusal) -> Outcome {
-        Outcome {
-            number: refusal.number(),
-            exponent: 0,
-            lifts: 0,
-        }
+        refused(refusal.number())
     }
 }
 
@@ -73,7 +70,18 @@ pub fn outcome_of(v: Ruling) -> Outcome
             exponent,
             lifts,
         },
-        Ruling::Refused(refusal) => Outcome::from(refusal),
+        Ruling::Refused(number) => refused(number),
+    }
+}
+
+// The answer of a refusal by this number.
+fn refused(number: u32) -> Outcome
+    ensures { result ≡ answer number 0 0 }
+{
+    Outcome {
+        number,
+        exponent: 0,
+        lifts: 0,
     }
 }
 
@@ -130,7 +138,7 @@ fn decide(n: usize, a: &[i64], buf: &mut [i64; BUFFER]) -> Ruling
 {
     match tables::checks::lawful(n, a) {
         Ok(()) => ruled(n, a, buf),
-        Err(refusal) => Ruling::Refused(refusal),
+        Err(refusal) => Ruling::Refused(refusal.number()),
     }
 }
 

@@ -4,7 +4,7 @@ use Rattle.verdict.proofs.inverse_in.Goals as goal
 
 pub returns-in_default : goal.returns-in_default
 returns-in_default c =
-    record { gives = rw c.outcome_of-in_default.ensures (inverse_as_verdict (front_size _ c.requires c.decide-ruling.array_long) (not_yes c.decide-ruling.result c.in_default.not-Yes) c.decide-ruling.ensures.0) }
+    record { gives = rw c.outcome_of-in_default.ensures (inverse_as_verdict (front_size _ c.requires c.decide-ruling.array_long) (not_yes c.decide-ruling.result c.decide-ruling.ensures.0 c.in_default.not-Yes) c.decide-ruling.ensures.0) }
 
 pub returns-then-invert : goal.returns-then-invert
 returns-then-invert c =
