@@ -1,11 +1,8 @@
 -- Numbers modulo X: the test for a multiple, a residue that gains a product and numbers that wrap, as the machine does them, and the inverse of a unit. Where
--- 1 - h g is a multiple of b^j, 1 - h (2 - g h) g is its square and one of b^2j: so k steps lead from an inverse modulo b to one modulo every divisor of
--- b^(2^k).
+-- 1 - h g is a multiple of b^j, 1 - h (2 - g h) g is its square and one of b^2j: so five steps lead from an inverse modulo b to one modulo every divisor of
+-- b^32.
 use mathlib.Core.Path.{◌≡◌, sym, ap, subst, ◌∙◌}
-use Prim.Native.Nat.{ℕ, ◌+◌, ◌*◌, ◌%◌, ◌^◌, ◌<◌}
-use native.Mathlib.Nat.{pow-suc}
-use native.Mathlib.Numerals.{add-one}
-use native.Mathlib.Omega.{arith}
+use Prim.Native.Nat.{ℕ, zero, suc, ◌+◌, ◌*◌, ◌%◌, ◌^◌, ◌<◌}
 use lib.IntN.{ℤ, pos, neg_ℤ, ◌+ℤ◌, ◌-ℤ◌, ◌*ℤ◌}
 use lib.Pow.{pow-add}
 use Rattle.numbers.proofs.Algebra.RingSolver.{ring, if◌is◌by◌then◌, #◌, ⊝◌, ◌⊕◌, ◌⊖◌, ◌⊗◌, ◌≐◌}
@@ -76,12 +73,6 @@ near_first {X} {b} {g} {h} e = record {
   left = cong_of_eq (pos X) (ring 4 (λ b g h q. if h ⊗ g ⊖ # 1 is b ⊗ q by ⊝ # 1 then # 1 ⊖ h ⊗ g ≐ (⊝ q) ⊗ b) tt (pos b) (pos g) (pos h) e.quot e.eqn ∙ ap (λ q. neg_ℤ e.quot *ℤ q) (sym (ap pos (power_one b))));
 }
 
-pub near_next : {X b g h r : ℕ} (k : ℕ) → Better X g h r → Near X b (2 ^ k) g h → Near X b (2 ^ (k + 1)) g r
-near_next {X} {b} {g} {h} {r} k w q = subst (λ (j : ℕ). Near X b j g r) (sym twice) (near_twice (2 ^ k) w q)
-  where
-    twice : 2 ^ (k + 1) ≡ 2 ^ k + 2 ^ k
-    twice = rw add-one (omega (arith, pow-suc 2 k))
-
 -- modulo a divisor of b^j
 pub near_last : {X b : ℕ} (j : ℕ) {g h : ℕ} → Cong (pos X) (pos (b ^ j)) (pos 0) → Near X b j g h → One X (pos h *ℤ pos g)
 near_last {X} {b} j {g} {h} d k =
@@ -93,3 +84,20 @@ near_last {X} {b} j {g} {h} d k =
 pub five_steps : {b X : ℕ} (g h₀ : ℕ) {h₁ h₂ h₃ h₄ h₅ : ℕ} → Cong (pos X) (pos (b ^ 32)) (pos 0) → One b (pos h₀ *ℤ pos g)
     → Better X g h₀ h₁ → Better X g h₁ h₂ → Better X g h₂ h₃ → Better X g h₃ h₄ → Better X g h₄ h₅ → One X (pos h₅ *ℤ pos g)
 five_steps g h₀ d e b₁ b₂ b₃ b₄ b₅ = near_last 32 d (near_twice 16 b₅ (near_twice 8 b₄ (near_twice 4 b₃ (near_twice 2 b₂ (near_twice 1 b₁ (near_first e))))))
+
+-- a number from which a second one is made
+pub record After (P Q : ℕ → Type 0) : Type 0 where
+  pub from : ℕ
+  pub led : P from
+  pub step : Q from
+
+-- h is what so many steps make of 1
+abbrev pub Led : ℕ → ℕ → ℕ → ℕ → Type 0
+Led X g zero h = h ≡ 1
+Led X g (suc k) h = After (Led X g k) (λ r. Better X g r h)
+
+-- the five steps of `unit`
+pub five_led : {b X : ℕ} (g h : ℕ) → Cong (pos X) (pos (b ^ 32)) (pos 0) → One b (pos 1 *ℤ pos g) → Led X g 5 h → One X (pos h *ℤ pos g)
+five_led {b} {X} g h d e l =
+    let k = l.led.led.led.led in
+    five_steps g k.from d (subst (λ (h : ℕ). One b (pos h *ℤ pos g)) (sym k.led) e) k.step l.led.led.led.step l.led.led.step l.led.step l.step
