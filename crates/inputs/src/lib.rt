@@ -14,7 +14,7 @@ pub fn read_full<R: Read>(input: &mut R, text: &mut [u8]) -> usize
 {
     let mut read = 0;
 
-    // Not by `read_exact` or `read_to_end`: they say little of what was read before a failure.
+    // Not by `read_exact`, which says little of what was read before a failure, nor by `read_to_end`, which has no bound and wants a heap.
     while read < text.len() {
         match input.read(&mut text[read..]) {
             Ok(0) | Err(_) => break,

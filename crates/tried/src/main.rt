@@ -16,7 +16,8 @@ fn main(rt: HostRuntime) {
 fn run(rt: &impl Print, text: &[u8]) {
     let mut right: u64 = 0;
     for line in text.split(|b| *b == b'#') {
-        if case(rt, line) {
+        // an empty piece, as behind a last '#', is no case
+        if !line.is_empty() && case(rt, line) {
             right = right.wrapping_add(1);
         }
     }
