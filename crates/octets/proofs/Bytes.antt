@@ -5,11 +5,12 @@ use Prim.Native.Nat.{ℕ, zero, suc, ◌+◌, ◌-◌, ◌*◌, ◌/◌, ◌%◌
 use native.Mathlib.Nat.{pow-suc, div-one, div-div-eq-div-mul}
 use native.Mathlib.Omega.{arith}
 use lib.IntN.{ℤ, pos, negsuc}
-use lib.ListN.{length, length-append, get_or, take}
+use lib.ListN.{length, length-append, get_or, take, drop}
 use lib.Seq.{take-suc}
 use mir.Syntax.{w32, w64}
 use mir.Val.{to_z, of_z}
 use Rattle.std.specs.Int.{from_le_bytes, byte_at, bytes_low_first, to_le_bytes}
+use Rattle.std.proofs.lemmas.Grind.{common_steps}
 use Rattle.std.specs.Simd.{first_chunks}
 use Rattle.octets.specs.Bytes.{signed32, decode, bits64, least_first, encode}
 
@@ -44,14 +45,11 @@ decode_at (suc m) (a ∷ b ∷ []) i h e = absurd (omega arith)
 decode_at (suc m) (a ∷ []) i h e = absurd (omega arith)
 decode_at (suc m) [] i h e = absurd (omega arith)
 
+-- chunk i has four
 chunk_long : (m : ℕ) (b : List ℕ) (i : ℕ) → i < m → length b ≡ 4 * m → length (get_or (first_chunks 4 m b) i []) ≡ 4
 chunk_long zero b i h e = absurd (omega arith)
-chunk_long (suc m) (a ∷ b ∷ c ∷ d ∷ t) zero h e = refl
-chunk_long (suc m) (a ∷ b ∷ c ∷ d ∷ t) (suc i) h e = chunk_long m t i (omega arith) (omega arith)
-chunk_long (suc m) (a ∷ b ∷ c ∷ []) i h e = absurd (omega arith)
-chunk_long (suc m) (a ∷ b ∷ []) i h e = absurd (omega arith)
-chunk_long (suc m) (a ∷ []) i h e = absurd (omega arith)
-chunk_long (suc m) [] i h e = absurd (omega arith)
+chunk_long (suc m) b zero h e = grind (arith, common_steps)
+chunk_long (suc m) b (suc i) h e = grind (arith, common_steps, chunk_long m (drop 4 b) i)
 
 -- the one number of chunk i
 pub decode_chunk : (m : ℕ) (b : List ℕ) (i : ℕ) {v : ℤ} → i < m → length b ≡ 4 * m → v ∷ [] ≡ decode (get_or (first_chunks 4 m b) i []) → v ≡ get_or (decode b) i (pos 0)
